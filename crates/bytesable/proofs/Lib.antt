@@ -1,0 +1,4 @@
+pub mod Fielding
+pub mod RayLaws
+pub mod TweakLaws
+pub mod BlockLaws

@@ -1,0 +1,4 @@
+pub mod Names
+pub mod Spelled
+pub mod Plays
+pub mod Shown

@@ -1,0 +1,14 @@
+// The script language: one line, one action, one answer.
+mod answer;
+mod element;
+mod playing;
+mod showing;
+mod spelling;
+mod verb;
+
+pub use answer::Answer;
+pub use element::Element;
+pub use element::Form;
+pub use element::Kind;
+pub use playing::play;
+pub use verb::Verb;
