@@ -17,13 +17,6 @@ import second
 
 SECOND = [sys.executable, str(pathlib.Path(__file__).resolve().parent / "second.py")]
 
-# Where documents and program part, or the documents do not say what is right: played by themselves, and no failure.
-OPEN = [
-    ("bytes that are no UTF-8", b"\xff\nread 00\n"),
-    ("a carriage return before the newline", b"read 00\r\n"),
-    ("a zero with a minus sign as an unsigned number", b"message -0 0 0 1 7 block 00\n"),
-]
-
 
 class Difference(Exception):
     """Two programs say different things; the text tells which and where."""
@@ -114,18 +107,6 @@ def compare_rust(rust, seed, lines, ours, counts):
             raise Difference(form % (seed, line, question.decode(), said.decode(), found.decode()))
 
 
-def play_open(binary):
-    """Says how the open points stand now."""
-    for name, script in OPEN:
-        ours, theirs = play([binary], script), play(SECOND, script)
-        print("open point, %s: %s" % (name, "same" if ours == theirs else "differs"))
-        if ours != theirs:
-            print("  script:  %r" % script)
-            for who, (printed, status) in (("program:", ours), ("second: ", theirs)):
-                said = b" / ".join(printed).decode("utf-8", "replace") or "(nothing)"
-                print("  %s %s, status %d" % (who, said, status))
-
-
 def main():
     parser = argparse.ArgumentParser()
     parser.add_argument("binary")
@@ -135,7 +116,6 @@ def main():
     parser.add_argument("--rust", action="append", default=[], help="a build of compare/rust; may be given again")
     given = parser.parse_args()
 
-    play_open(given.binary)
     total = spoken = 0
     counts = {rust: dict.fromkeys((b"header.read", b"header.write", b"wrapped", b"panic"), 0) for rust in given.rust}
     try:

@@ -2,11 +2,9 @@
 """Makes random scripts: `scripts.py SEED COUNT` prints COUNT lines. The same seed gives the same script.
 
 Most lines have the form of their verb, with numbers, floats and lengths at their bounds; the others are bad in one
-place. The last line of an odd seed ends without a newline. Lines on which documents and program are known to part are
-left out (see `is_open`); run.py plays those by themselves.
+place, or end with a carriage return. The last line of an odd seed ends without a newline.
 """
 import random
-import re
 import sys
 
 WRAP = 2**64 - 48  # the first length whose sum with the header's 48 bytes leaves 64 bits
@@ -30,7 +28,7 @@ FLOATS = [
 LENGTHS = [0, 1, 2, 11, 19, 29, 47, 48, 49, 94, 95, 96, 97, 98]
 
 # One byte of these is put into a line that was good, or a whole character where it is not ASCII.
-SPOILERS = [bytes([code]) for code in range(128) if code != 10]
+SPOILERS = [bytes([code]) for code in range(256) if code != 10]
 SPOILERS += [text.encode() for text in ("é", "ß", "０", "٣", "−", "\u00a0", "\u2003", "\u0085", "\u2028", "𝟙")]
 
 STRANGE = """
@@ -117,22 +115,8 @@ message 0 0 0 1 7 block éé
    # a comment behind blanks
 # Kommentar mit Umlaut: ä
 """.strip("\n").encode().split(b"\n")
-
-
-def is_open(line):
-    """Whether documents and program are known to part here, or the documents do not say what is right.
-
-    A carriage return before the line's end, bytes that are no UTF-8, a zero with a minus sign as an unsigned number.
-    """
-    if line.endswith(b"\r"):
-        return True
-    try:
-        line.decode()
-    except UnicodeDecodeError:
-        return True
-    parts = [word for word in line.split(b" ") if word]
-    numbers = parts[1:6] + (parts[7:8] if parts[6:7] == [b"ray"] else [])
-    return parts[:1] == [b"message"] and any(re.fullmatch(rb"-0+", word) for word in numbers)
+STRANGE += [b"\xff", b"# \xff\xfe", b"read \xff", b"read\xff00", b"\x80read 00", b"read 00 \xc3", b"read 00\r\r"]
+STRANGE += [b"message -0 0 0 1 7 block 00", b"message 0 0 0 1 7 ray -0 -0 -0", b"message 0 0 0 1 7 ray 0 -0 -00"]
 
 
 # Parts of lines. Each takes the source of chance first.
@@ -350,11 +334,9 @@ BAD = [wrong_count, wrong_word, wrong_blank, many_blanks, one_byte, quiet, stran
 
 
 def line_of(rnd):
-    """One line, never an open one."""
-    while True:
-        line = good_line(rnd) if rnd.random() < 0.7 else rnd.choice(BAD)(rnd)
-        if not is_open(line):
-            return line
+    """One line; some end with a carriage return."""
+    line = good_line(rnd) if rnd.random() < 0.7 else rnd.choice(BAD)(rnd)
+    return line + b"\r" if rnd.random() < 0.02 else line
 
 
 def script(seed, count):

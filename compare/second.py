@@ -42,13 +42,14 @@ class Refused(Exception):
 
 
 def words(line):
-    """The words of a line. Only the space separates; a tab is part of a word."""
+    """The words of a line. Only the space separates; a tab is part of a word, a carriage return at the end of none."""
+    line = line[:-1] if line.endswith(b"\r") else line
     return [word for word in line.split(b" ") if word]
 
 
 def number(word, low, high):
-    """A decimal number from low to high."""
-    digits = word[1:] if word.startswith(b"-") else word
+    """A decimal number from low to high. A sign may stand only where the number can be negative."""
+    digits = word[1:] if word.startswith(b"-") and low < 0 else word
     if not digits.isdigit():  # of bytes: the ten ASCII digits only, and at least one
         raise Unreadable
     # Twenty-one digits with no zero in front are over every bound, so the rest need not be read.

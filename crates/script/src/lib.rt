@@ -11,4 +11,5 @@ pub use element::Element;
 pub use element::Form;
 pub use element::Kind;
 pub use playing::play;
+pub use playing::play_line;
 pub use verb::Verb;

@@ -2,7 +2,7 @@
 ghost use Prim.Native.Nat.{_≤_};
 ghost use lib.ListN.{length};
 ghost use Rattle.std.specs.Vec.{made};
-ghost use Rattle.words.specs.Lines.{wordsOf};
+ghost use Rattle.words.specs.Lines.{textOf, wordsOf};
 ghost use Rattle.script.specs.Plays.{Plays, PlaysRead, PlaysElement, PlaysMessage, ReadsElement, WritesMessage};
 ghost use Rattle.script.specs.Spelled.{elementOctets};
 use crate::answer::Answer;
@@ -23,9 +23,18 @@ use framing::write_message;
 use networking::MessageHeader;
 use std::alloc::AllocError;
 use std::alloc::Global;
+use words::line_text;
 use words::next_word;
 
-// Plays one line of a script.
+// Plays one line of a script, as it was read.
+pub fn play_line(heap: Global, line: &[u8]) -> Result<Answer, AllocError>
+    ensures answer { λ r. ⌜ made r (λ a. Plays (wordsOf (textOf (now (line .entry)))) a) ⌝ }
+{
+    let text = line_text(heap, line)?;
+    play(heap, text.as_str())
+}
+
+// Plays the text of a line.
 pub fn play(heap: Global, line: &str) -> Result<Answer, AllocError>
     ensures answer { λ r. ⌜ made r (λ a. Plays (wordsOf (now (line .entry))) a) ⌝ }
 {

@@ -1,13 +1,14 @@
 -- Lines that are parted at blanks. Assumes nothing.
-use Prim.Native.Nat.{ℕ, suc, _<_}
+use Prim.Native.Nat.{ℕ, suc, _+_, _-_, _<_}
 use mathlib.Core.Path.{_≡_, refl, sym, ap, subst, _∙_}
 use mathlib.Core.Bool.{cond, true, false}
-use mathlib.Core.List.{List, [], _∷_, _++_}
+use mathlib.Core.List.{List, [], _∷_, _++_, map}
 use native.Mathlib.Omega.{arith}
 use lib.Dec.{eqb}
-use lib.ListN.{length, getD}
+use lib.ListN.{length, getD, take}
+use Rattle.std.proofs.shelf.Lists.{take-more, map-append}
 use Rattle.std.proofs.shelf.Tests.{ne-eqb}
-use Rattle.words.specs.Lines.{onto, piecesOf, filled, wordsOf}
+use Rattle.words.specs.Lines.{onto, piecesOf, filled, wordsOf, plainOf, unreturned}
 
 -- no byte is a blank
 abbrev pub Unparted : List ℕ → Type 0
@@ -52,3 +53,15 @@ pub no-words : (line : List ℕ) → length line ≡ 0 → wordsOf line ≡ []
 unfolding wordsOf
 no-words [] h = refl
 no-words (c ∷ cs) h = absurd (omega arith)
+
+-- the text of one byte more
+pub plain-more : (xs : List ℕ) (i : ℕ) → i < length xs → map plainOf (take (i + 1) xs) ≡ map plainOf (take i xs) ++ (plainOf (getD xs i 0) ∷ [])
+plain-more xs i h = ap (map plainOf) (take-more xs i 0 h) ∙ map-append plainOf (take i xs) (getD xs i 0 ∷ [])
+
+-- a line with no carriage return at its end
+pub unreturned-none : (cs : List ℕ) → length cs ≡ 0 → cs ≡ unreturned cs
+unreturned-none [] h = refl
+unreturned-none (c ∷ cs) h = absurd (omega arith)
+
+pub unreturned-plain : (cs : List ℕ) → (getD cs (length cs - 1) 0 ≡ 13 → ⊥) → cs ≡ unreturned cs
+unreturned-plain cs h = sym (ap (λ b. cond b (take (length cs - 1) cs) cs) (ne-eqb _ 13 h))

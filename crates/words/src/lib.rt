@@ -9,5 +9,6 @@ pub use hexadecimal::bytes;
 pub use hexadecimal::pattern;
 pub use hexadecimal::push_bytes;
 pub use hexadecimal::push_pattern;
+pub use line::line_text;
 pub use line::next_word;
 pub use line::only_word;

@@ -1,9 +1,13 @@
 // The words of a line, which blanks part.
 ghost use mathlib.Core.Path.{_≡_};
 ghost use mathlib.Core.List.{List, [], _∷_};
-ghost use Prim.Native.Nat.{ℕ};
+ghost use Prim.Native.Nat.{ℕ, _<_};
+ghost use Rattle.std.specs.Of.String.{string-bytes};
 ghost use Rattle.std.specs.Options.{Cases};
-ghost use Rattle.words.specs.Lines.{wordsOf};
+ghost use Rattle.std.specs.Vec.{made};
+ghost use Rattle.words.specs.Lines.{plainOf, textOf, unreturned, wordsOf};
+use std::alloc::AllocError;
+use std::alloc::Global;
 
 // The first word of a line and what is behind it.
 pub fn next_word(line: &str) -> Option<(&str, &str)>
@@ -32,4 +36,34 @@ pub fn only_word(line: &str) -> Option<&str>
         None => Some(word),
         Some(_) => None,
     }
+}
+
+// The text of a line: a carriage return at its end is no part of it, and each byte that is no ASCII becomes a question mark, which
+// no word has a use for.
+pub fn line_text(heap: Global, line: &[u8]) -> Result<String, AllocError>
+    ensures answer { λ r. ⌜ made r (λ t. string-bytes t ≡ textOf (now (line .entry))) ⌝ }
+{
+    let mut text = String::new(heap);
+    for byte in without_return(line) {
+        text.push(plain(*byte))?;
+    }
+    Ok(text)
+}
+
+// A line without a carriage return at its end.
+fn without_return(line: &[u8]) -> &[u8]
+    ensures { λ r. ⌜ now r ≡ unreturned (now (line .entry)) ⌝ }
+{
+    if line.len() > 0 && line[line.len() - 1] == b'\r' {
+        &line[0..line.len() - 1]
+    } else {
+        line
+    }
+}
+
+fn plain(byte: u8) -> char
+    ensures answer { λ r. ⌜ r ≡ plainOf byte ⌝ }
+    ensures ascii { λ r. ⌜ r < 128 ⌝ }
+{
+    if byte < 128 { char::from(byte) } else { '?' }
 }
