@@ -30,7 +30,7 @@ pub struct MessageHeader {
 }
 
 impl MessageHeader {
-    // A header as octets.
+    // How many octets a header has.
     pub const BYTES: usize = 48;
 
     // The six numbers at the front of `bytes`, whether the payload is there or not.

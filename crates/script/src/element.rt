@@ -13,8 +13,8 @@ pub enum Element {
 }
 
 // A type of elements.
-#[derive(Clone, Copy, Debug, PartialEq)]
-pub enum Kind {
+#[derive(Clone, Copy)]
+pub(crate) enum Kind {
     Ray,
     Tweak,
     Block,
@@ -22,7 +22,7 @@ pub enum Kind {
 
 impl Kind {
     // The kind that a word names.
-    pub fn named(word: &str) -> Option<Kind>
+    pub(crate) fn named(word: &str) -> Option<Kind>
         ensures answer { λ r. ⌜ r ≡ kindOf (now (word .entry)) ⌝ }
     {
         match word {
@@ -35,8 +35,8 @@ impl Kind {
 }
 
 // How an element is spelled.
-#[derive(Clone, Copy, Debug, PartialEq)]
-pub enum Form {
+#[derive(Clone, Copy)]
+pub(crate) enum Form {
     Ray,
     Thickness,
     Tilt,
@@ -46,7 +46,7 @@ pub enum Form {
 
 impl Form {
     // The form that a word names.
-    pub fn named(word: &str) -> Option<Form>
+    pub(crate) fn named(word: &str) -> Option<Form>
         ensures answer { λ r. ⌜ r ≡ formOf (now (word .entry)) ⌝ }
     {
         match word {

@@ -8,8 +8,6 @@ mod verb;
 
 pub use answer::Answer;
 pub use element::Element;
-pub use element::Form;
-pub use element::Kind;
 pub use playing::play;
 pub use playing::play_line;
 pub use verb::Verb;

@@ -2,7 +2,7 @@
 ghost use mathlib.Core.Path.{_≡_};
 ghost use Rattle.script.specs.Names.{verbName, verbOf};
 
-#[derive(Clone, Copy, Debug, PartialEq)]
+#[derive(Clone, Copy)]
 pub enum Verb {
     Message,
     Read,
@@ -11,7 +11,7 @@ pub enum Verb {
 
 impl Verb {
     // The verb that a word names.
-    pub fn named(word: &str) -> Option<Verb>
+    pub(crate) fn named(word: &str) -> Option<Verb>
         ensures answer { λ r. ⌜ r ≡ verbOf (now (word .entry)) ⌝ }
     {
         match word {
@@ -23,7 +23,7 @@ impl Verb {
     }
 
     // The word that names the verb.
-    pub fn name(self) -> &'static str
+    pub(crate) fn name(self) -> &'static str
         ensures answer { λ r. ⌜ now r ≡ verbName self ⌝ }
     {
         match self {
