@@ -12,5 +12,5 @@ returns-then-not-reaches c =
 pub returns : goal.returns
 returns c =
     let there : c.args.at + 8 ≤ length c.args.bytes.now = grind arith in
-    let read : c.from-be-bytes.result ≡ value (part c.args.at 8 c.args.bytes.now) = search (rules, value_8) in
-    record { answer = octets_back c.args.bytes.now c.args.at 8 (octets_fit c.args.bytes.now c.type-inv.bytes) there read }
+    let read : c.from_be_bytes.result ≡ value (part c.args.at 8 c.args.bytes.now) = search (rules, value_8) in
+    record { answer = octets_back c.args.bytes.now c.args.at 8 (octets_fit c.args.bytes.now c.type_inv.bytes) there read }
