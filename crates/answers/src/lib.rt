@@ -1,4 +1,6 @@
 // Why a call is refused: one case for each number of docs/ANSWERS.md.
+#![tactic(auto)]
+
 ghost use Rattle.std.specs.Prelude.{◌≡◌};
 ghost use Rattle.answers.specs.Faults.{number_of, place_of};
 

@@ -1,4 +1,6 @@
 // What messages carry: elements that are written as octets and read again.
+#![tactic(auto)]
+
 mod block;
 mod blocks;
 mod element;

@@ -1,4 +1,6 @@
 // A message: a header, and the octets of an element behind it.
+#![tactic(auto)]
+
 ghost use Rattle.framing.specs.Messages.{sized, Writes, Back};
 
 use answers::Fault;

@@ -1,4 +1,6 @@
 // Numbers as octets, high octet first.
+#![tactic(auto)]
+
 mod float;
 mod integer;
 mod number;

@@ -1,5 +1,7 @@
 // Plays lines whose answers are known, and says which are answered otherwise.
 // Each line stands on its own, and behind it a line `-> ANSWER`, or `->` where nothing is printed.
+#![tactic(auto)]
+
 use script::play_line;
 use std::alloc::Global;
 use std::io::{BufRead, BufReader};

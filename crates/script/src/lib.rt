@@ -1,4 +1,6 @@
 // The script language: one line, one action, one answer.
+#![tactic(auto)]
+
 mod answer;
 mod element;
 mod playing;

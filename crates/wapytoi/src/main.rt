@@ -1,4 +1,6 @@
 // Plays a script from standard input, and prints one line for each action.
+#![tactic(auto)]
+
 use script::play_line;
 use std::io::{BufRead, BufReader};
 

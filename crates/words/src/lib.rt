@@ -1,4 +1,6 @@
 // The words of a script line: decimal numbers and hexadecimal bytes.
+#![tactic(auto)]
+
 mod decimal;
 mod hexadecimal;
 mod line;

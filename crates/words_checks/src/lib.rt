@@ -1,4 +1,6 @@
 // Examples of words that are read and written.
+#![tactic(auto)]
+
 #[cfg(test)]
 mod tests {
     use std::alloc::{AllocError, Global};
