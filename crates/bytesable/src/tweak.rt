@@ -59,7 +59,7 @@ impl Tweak {
     }
 }
 
-// Whether two floats have one pattern, so that a not_a_number is the same as itself and the zeros differ.
+// Whether two floats have one pattern, so that a not-a-number is the same as itself and the zeros differ.
 fn same_pattern(a: f64, b: f64) -> bool
     ensures { Decides result (double a ≡ double b) }
 {

@@ -42,7 +42,7 @@ nan_of n e = nan_is _ (sym (nan_bits_is binary64 n) ∙ e)
 plain_back : (n : ℕ) → n < 2 ^ 64 → nan_bits binary64 n ≡ false → to_bits binary64 (of_bits binary64 n) ≡ n
 plain_back n h e = to_bits-of_bits binary64 n h (not_T _ (sym (nan_bits_is binary64 n) ∙ e))
 
--- what a pattern is: that of a value of binary64, or the written one of a not_a_number
+-- what a pattern is: that of a value of binary64, or the written one of a not-a-number
 pattern_ways : (x : Float) → (T (fits binary64 x) × (pattern_of x ≡ to_bits binary64 x)) ⊎ (pattern_of x ≡ 9221120237041090560)
 unfolding pattern_of
 pattern_ways x = way (fits binary64 x)
@@ -66,7 +66,7 @@ taken_back n h w = pattern_of_lem (of_bits binary64 n) (of_bits-fits binary64 n)
     back (inl w) = ap (to_bits binary64) (nan_of n (is_pattern n ∙ lt-ltb _ _ w.0)) ∙ to_bits-nan ∙ sym w.1
     back (inr w) = plain_back n h (is_pattern n ∙ le-ltb _ _ w)
 
--- no value has another pattern of a not_a_number
+-- no value has another pattern of a not-a-number
 pub not_taken : (n : ℕ) (x : Float) → 9218868437227405312 < n % 9223372036854775808 → (n ≡ 9221120237041090560 → ⊥) → pattern_of x ≡ n → ⊥
 not_taken n x a other p = way (pattern_ways x)
   where

@@ -14,7 +14,7 @@ pub record Standard : Type 0 where
   pub zeros : (s : Bool) → of_fields binary64 s 0 0 ≡ fin s 0 (pos 0)
   pub infinite : (s : Bool) → of_fields binary64 s 2047 0 ≡ inf s
   pub not_a_number : (s : Bool) (t : ℕ) → of_fields binary64 s 2047 (suc t) ≡ nan
-  -- the pattern of a value is one that means it, and only a not_a_number has more than one
+  -- the pattern of a value is one that means it, and only a not-a-number has more than one
   pub means : (x : Float) → T (fits binary64 x) → from_bits binary64 (pattern_of x) ≡ x
   pub only : (n : ℕ) (x : Float) → n < 2 ^ 64 → from_bits binary64 n ≡ x → (x ≢ nan) → n ≡ pattern_of x
   pub no_number : pattern_of nan ≡ 9221120237041090560

@@ -12,9 +12,9 @@ returns g c =
     let w = g.N.Number.width in
     let os = octets w (g.N.Number.pattern c.args.number) in
     let d = c.args.out.now in
-    let first : c.put.new.out ≡ paste d c.args.at (head c.args.tag c.args.size) 3 = c.in-ok-put.ensures.after.1 in
+    let first : c.put.new.out ≡ paste d c.args.at (head c.args.tag c.args.size) 3 = c.in_ok-put.ensures.after.1 in
     let long : length os ≡ w = length-octets w _ in
-    let second = lays_ok os (c.args.at + 3) c.put.new.out c.write-at.result c.write-at.new.out c.write-at.ensures.after (omega (arith, c.requires)) in
+    let second = lays_ok os (c.args.at + 3) c.put.new.out c.write_at.result c.write_at.new.out c.write_at.ensures.after (omega (arith, c.requires)) in
     record {
       after = second.1 ∙ ap (paste c.put.new.out (c.args.at + 3) os) long ∙ ap (λ l. paste l (c.args.at + 3) os w) first ∙ paste-paste d c.args.at (head c.args.tag c.args.size) 3 os w refl long (omega (arith, c.requires)) ∙ ap (paste d c.args.at (head c.args.tag c.args.size ++ os)) (sym (length-field w c.args.tag c.args.size _));
       granted = second.0;

@@ -4,19 +4,19 @@ use Rattle.octets.specs.Octets.{octets}
 use Rattle.bytesable.proofs.Fielding.{field_parts, field_read, head_there}
 use Rattle.bytesable.proofs.field.read_field.Goals as goal
 
-pub returns-then-not-has-head : goal.returns-then-not-has-head
-returns-then-not-has-head g c =
+pub returns-then-not-has_head : goal.returns-then-not-has_head
+returns-then-not-has_head g c =
     record {
-      answer = λ x e. both_ways c.has-head.result c.if-not-has-head.true (c.has-head.ensures.1 (field_parts c.args.bytes.now c.args.at g.N.Number.width _ _ _ e).0);
+      answer = λ x e. both_ways c.has_head.result c.if-not-has_head.true (c.has_head.ensures.1 (field_parts c.args.bytes.now c.args.at g.N.Number.width _ _ _ e).0);
     }
 
-pub overflow-add-at : goal.overflow-add-at
-overflow-add-at g c =
-    let h : c.args.at + 3 ≤ length c.args.bytes.now = head_there _ _ _ _ (c.if-not-has-head.ensures.0 refl) in
+pub overflow_add-at : goal.overflow_add-at
+overflow_add-at g c =
+    let h : c.args.at + 3 ≤ length c.args.bytes.now = head_there _ _ _ _ (c.if-not-has_head.ensures.0 refl) in
     omega arith
 
 pub returns : goal.returns
 returns g c =
     record {
-      answer = field_read c.args.bytes.now c.args.at g.N.Number.width c.args.tag c.args.size (λ x. octets g.N.Number.width (g.N.Number.pattern x)) c.read-at.result (c.if-not-has-head.ensures.0 refl) c.read-at.ensures.answer;
+      answer = field_read c.args.bytes.now c.args.at g.N.Number.width c.args.tag c.args.size (λ x. octets g.N.Number.width (g.N.Number.pattern x)) c.read_at.result (c.if-not-has_head.ensures.0 refl) c.read_at.ensures.answer;
     }

@@ -7,5 +7,5 @@ returns-then-from-gt-MOST c = record { after = (no_block c.args.from.now c.if-fr
 
 pub returns : goal.returns
 returns c =
-    let same = c.copy-from-slice.ensures.after in
-    record { after = sym (take_at c.copy-from-slice.new.self _ (length c.args.from.now) (ap length same) ∙ same) }
+    let same = c.copy_from_slice.ensures.after in
+    record { after = sym (take_at c.copy_from_slice.new.self _ (length c.args.from.now) (ap length same) ∙ same) }
