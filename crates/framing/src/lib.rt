@@ -13,8 +13,8 @@ pub fn write_message<T: Bytesable>(
     element: &T,
     out: &mut [u8],
 ) -> Result<(), Fault>
-    ensures after { Writes header.now (bytes element.now) out.old result out.new }
-    ensures back { Back header.now (bytes element.now) result out.new }
+    ensures after { Writes header.now (T.bytes element.now) out.old result out.new }
+    ensures back { Back header.now (T.bytes element.now) result out.new }
 {
     let length = element.length_in_bytes();
     if length == 0 {
