@@ -11,21 +11,21 @@ use Rattle.words.proofs.decimal.unsigned.Goals.{After-ok}
 read : (c : After-ok) → capped c.args.most c.ok.result ≡ unsigned_of c.args.most c.args.word.now
 read c =
     let word = c.args.word.now in
-    let plain = not_from_Decides _ (starts_char 43 word _ c.starts-with.ensures.cases (omega arith) (omega arith)) c.if-starts-with.false in
+    let plain = not_from_Decides _ (starts_char 43 word _ c.starts_with.ensures.cases (omega arith) (omega arith)) c.if-starts_with.false in
     capped_unsigned c.args.most word _ c.ranges.most.fits (c.ok.ensures.value ∙ parsed_unsigned word _ c.parse.ensures.value.0 plain)
 
-pub returns-in-err-value : goal.returns-in-err-value
-returns-in-err-value c =
-    c.from-residual.ensures ∙ sym (ap (capped c.args.most) c.in-err-value.was) ∙ read (goal.at.returns-in-err-value c).After-ok
+pub returns-in_err-value : goal.returns-in_err-value
+returns-in_err-value c =
+    c.from_residual.ensures ∙ sym (ap (capped c.args.most) c.in_err-value.was) ∙ read (goal.at.returns-in_err-value c).After-ok
 
 pub returns-then-value-most : goal.returns-then-value-most
 returns-then-value-most c =
-    sym (cond-true _ _ _ (le-leb c.in-ok-value.value c.args.most (omega arith)))
-    ∙ sym (ap (capped c.args.most) c.in-ok-value.was)
+    sym (cond-true _ _ _ (le-leb c.in_ok-value.value c.args.most (omega arith)))
+    ∙ sym (ap (capped c.args.most) c.in_ok-value.was)
     ∙ read (goal.at.returns-then-value-most c).After-ok
 
 pub returns-else-value-most : goal.returns-else-value-most
 returns-else-value-most c =
-    sym (cond-false _ _ _ (lt-leb c.in-ok-value.value c.args.most (omega arith)))
-    ∙ sym (ap (capped c.args.most) c.in-ok-value.was)
+    sym (cond-false _ _ _ (lt-leb c.in_ok-value.value c.args.most (omega arith)))
+    ∙ sym (ap (capped c.args.most) c.in_ok-value.was)
     ∙ read (goal.at.returns-else-value-most c).After-ok

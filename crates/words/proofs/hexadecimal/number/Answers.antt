@@ -6,24 +6,24 @@ use Rattle.words.proofs.hexadecimal.number.Goals.{After-from}
 
 -- the digit of this turn
 digit : (c : After-from) → digit_of (get_or c.args.digits.now c.loop-c.c-index 0) ≡ Some c.from.result
-digit c = sym c.in-ok-digit-value.ensures ∙ ap Some (sym c.from.ensures)
+digit c = sym c.in_ok-digit_value.ensures ∙ ap Some (sym c.from.ensures)
 
 low : (c : After-from) → c.from.result < 16
 low c = digit_lt (get_or c.args.digits.now c.loop-c.c-index 0) c.from.result (digit c)
 
-pub overflow-mul-value : goal.overflow-mul-value
-overflow-mul-value c = let r = room c.loop-c.value c.loop-c.c-index c.loop-c.invariant.0 (omega arith) in search rules
+pub overflow_mul-value : goal.overflow_mul-value
+overflow_mul-value c = let r = room c.loop-c.value c.loop-c.c-index c.loop-c.invariant.0 (omega arith) in search rules
 
-pub overflow-add-value : goal.overflow-add-value
-overflow-add-value c =
+pub overflow_add-value : goal.overflow_add-value
+overflow_add-value c =
     let r = room c.loop-c.value c.loop-c.c-index c.loop-c.invariant.0 (omega arith) in
-    let d = low (goal.at.overflow-add-value c).After-from in
+    let d = low (goal.at.overflow_add-value c).After-from in
     search rules
 
-pub returns-in-err-digit-value : goal.returns-in-err-digit-value
-returns-in-err-digit-value c =
-    let stopped = sym (read_stop _ _ _ c.loop-c-test.true (sym c.in-err-digit-value.ensures)) ∙ c.loop-c.invariant.1 in
-    rw c.from-residual.ensures (record { answer = stopped; bound = tt })
+pub returns-in_err-digit_value : goal.returns-in_err-digit_value
+returns-in_err-digit_value c =
+    let stopped = sym (read_stop _ _ _ c.loop-c-test.true (sym c.in_err-digit_value.ensures)) ∙ c.loop-c.invariant.1 in
+    rw c.from_residual.ensures (record { answer = stopped; bound = tt })
 
 pub loop-c-preserved : goal.loop-c-preserved
 loop-c-preserved c =

@@ -8,11 +8,11 @@ use Rattle.words.proofs.hexadecimal.pairs.Goals as goal
 pub returns-then-digits-ne0 : goal.returns-then-digits-ne0
 returns-then-digits-ne0 c = sym (pairs_odd c.args.digits.now c.if-digits-ne0.true)
 
-pub returns-in-default : goal.returns-in-default
-returns-in-default c =
+pub returns-in_default : goal.returns-in_default
+returns-in_default c =
     let digits = c.args.digits.now in
     let i = c.loop-i.i in
-    let stopped = pair_at digits i (omega arith) ∙ ap (λ o. in_front o (pairs_of (drop (2 * (i + 1)) digits))) (sym c.in-default.ensures.answer) in
+    let stopped = pair_at digits i (omega arith) ∙ ap (λ o. in_front o (pairs_of (drop (2 * (i + 1)) digits))) (sym c.in_default.ensures.answer) in
     sym (ap (option_map (λ bs. vec_items c.loop-i.bytes ++ bs)) stopped) ∙ c.loop-i.invariant
 
 pub loop-i-preserved : goal.loop-i-preserved
@@ -22,7 +22,7 @@ loop-i-preserved c =
     let rest = pairs_of (drop (2 * (i + 1)) digits) in
     let items = vec_items c.loop-i.bytes in
     let here = pair_at digits i (omega arith) ∙ ap (λ o. in_front o rest) (sym c.in-Some.ensures.answer) in
-    let pushed : vec_items c.push.new.self ≡ items ++ c.in-Some.byte ∷ [] = c.in-ok-push.ensures.items in
+    let pushed : vec_items c.push.new.self ≡ items ++ c.in-Some.byte ∷ [] = c.in_ok-push.ensures.items in
     ap (λ xs. option_map (λ bs. xs ++ bs) rest) pushed
     ∙ mapped_more items c.in-Some.byte rest
     ∙ sym (ap (option_map (λ bs. items ++ bs)) here)
