@@ -146,8 +146,8 @@ fn write_bytesable<T: Bytesable>(
     header: &MessageHeader,
     element: &T,
 ) -> Result<Answer, AllocError>
-    requires { length (bytes element.now) ≤ 96 }
-    ensures answer { IfOk result (λ a. WritesMessage header.now (bytes element.now) a) }
+    requires { length (T.bytes element.now) ≤ 96 }
+    ensures answer { IfOk result (λ a. WritesMessage header.now (T.bytes element.now) a) }
 {
     let mut message = vec![in heap; 0u8; 48 + element.length_in_bytes()]?;
     match write_message(header, element, message.as_mut_slice()) {

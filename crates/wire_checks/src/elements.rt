@@ -203,7 +203,7 @@ fn a_block_has_up_to_ninety_six_octets(rt: HostRuntime) -> Result<(), Fail> {
     assert_eq!(rt; Block::new(&bytes).err(), Some(Fault::NoValue));
     let mut block = Block::new(&[1, 2, 3])?;
     assert_eq!(rt; block.from_bytes(&bytes), Err(Fault::NoValue));
-    assert!(rt; block.as_bytes() == &[1, 2, 3]);
+    assert!(rt; block.as_bytes() == [1, 2, 3].as_slice());
     block.from_bytes(&[])?;
     assert_eq!(rt; block.length_in_bytes(), 0);
     Ok(())

@@ -3,11 +3,11 @@ use Rattle.bytesable.proofs.RayLaws.{length-ray_octets}
 use Rattle.bytesable.proofs.TweakLaws.{size_of, length-tweak_octets, size_most}
 use Rattle.script.proofs.playing.write_element.Goals as goal
 
-pub write-bytesable-requires : goal.write-bytesable-requires
-write-bytesable-requires c = omega (arith, length-ray_octets c.in-Ray.ray)
+pub write_bytesable-requires : goal.write_bytesable-requires
+write_bytesable-requires c = omega (arith, length-ray_octets c.in-Ray.ray)
 
-pub write-bytesable-requires-in-Tweak : goal.write-bytesable-requires-in-Tweak
-write-bytesable-requires-in-Tweak c = omega (arith, length-tweak_octets c.in-Tweak.tweak, size_most c.in-Tweak.tweak)
+pub write_bytesable-requires-in-Tweak : goal.write_bytesable-requires-in-Tweak
+write_bytesable-requires-in-Tweak c = omega (arith, length-tweak_octets c.in-Tweak.tweak, size_most c.in-Tweak.tweak)
 
-pub write-bytesable-requires-in-Block : goal.write-bytesable-requires-in-Block
-write-bytesable-requires-in-Block c = omega (arith, length-take c.in-Block.block.len c.in-Block.block.bytes, c.in-Block.block.bounded)
+pub write_bytesable-requires-in-Block : goal.write_bytesable-requires-in-Block
+write_bytesable-requires-in-Block c = omega (arith, length-take c.in-Block.block.len c.in-Block.block.bytes, c.in-Block.block.bounded)

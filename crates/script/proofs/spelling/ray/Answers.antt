@@ -4,11 +4,11 @@ use Rattle.script.specs.Spelled.{ray_spelled}
 use Rattle.script.proofs.Forms.{no_ray}
 use Rattle.script.proofs.spelling.ray.Goals as goal
 
-pub returns-in-err-only-word : goal.returns-in-err-only-word
-returns-in-err-only-word c =
-    let first = c.in-ok-word.ensures.answer in
-    let second = c.in-ok-word-2.ensures.answer in
+pub returns-in_err-only_word : goal.returns-in_err-only_word
+returns-in_err-only_word c =
+    let first = c.in_ok-word.ensures.answer in
+    let second = c.in_ok-word-2.ensures.answer in
     let none : ray_spelled (words_of c.args.text.now) ≡ None =
-    ap ray_spelled (first ∙ ap (λ (ws : List (List ℕ)). c.in-ok-word.word.now ∷ ws) second) ∙ no_ray c.in-ok-word.word.now c.in-ok-word-2.word.now (words_of c.in-ok-word-2.rest.now) c.in-err-only-word.ensures.answer
+    ap ray_spelled (first ∙ ap (λ (ws : List (List ℕ)). c.in_ok-word.word.now ∷ ws) second) ∙ no_ray c.in_ok-word.word.now c.in_ok-word-2.word.now (words_of c.in_ok-word-2.rest.now) c.in_err-only_word.ensures.answer
     in
-    record { answer = rw c.from-residual-in-err-only-word.ensures none }
+    record { answer = rw c.from_residual-in_err-only_word.ensures none }
