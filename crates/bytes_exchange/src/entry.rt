@@ -9,11 +9,10 @@ pub enum QueueEntry {
 }
 
 // A queue of up to 12 entries, front first.
+#[derive(Clone, Copy)]
 pub struct MergeQueue {
     pub entries: Fixed<QueueEntry, 12>,
 }
-
-impl Copy for MergeQueue {}
 
 // What became of a piece that a queue was extended by.
 #[derive(Clone, Copy, Debug, PartialEq)]

@@ -1,4 +1,6 @@
 // Queues of byte pieces that merge.
+#![tactic(auto)]
+
 mod entry;
 mod merging;
 mod queue;

@@ -1,6 +1,6 @@
 -- Valid bytes that move to the front of another buffer. Assumes nothing.
 use Rattle.std.proofs.Common.{◌≡◌, ℕ, ◌+◌, ◌-◌, ◌*◌, ◌<◌, ◌≤◌, List, ◌++◌, length, take, drop, Some, Option, sym, ap, ◌∙◌, le_refl, arith}
-use lib.Seq.{paste}
+use Rattle.std.proofs.Math.Seq.{paste}
 use Rattle.std.proofs.lemmas.List.{take-take}
 use Rattle.pieces.specs.Counts.{free, behind, first}
 use Rattle.pieces.proofs.Found.{passes, known}

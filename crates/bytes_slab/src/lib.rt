@@ -1,4 +1,6 @@
 // Slabs: where a source or the far end writes into a region.
+#![tactic(auto)]
+
 mod capacity;
 mod slab;
 mod writing;

@@ -1,8 +1,7 @@
 use fixed::Fixed;
 
 // How many pieces lie in each buffer of a region: a kept count for each.
+#[derive(Clone, Copy)]
 pub struct Leases {
     pub counts: Fixed<u16, 16>,
 }
-
-impl Copy for Leases {}

@@ -1,4 +1,6 @@
 // Pieces of a region's buffers, and how many pieces each buffer has.
+#![tactic(auto)]
+
 mod cutting;
 mod free;
 mod leases;

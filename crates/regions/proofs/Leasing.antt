@@ -1,7 +1,7 @@
 -- Lease counts that are the numbers of pieces. Assumes nothing.
-use Rattle.std.proofs.Common.{◌≡◌, ℕ, ◌+◌, ◌-◌, ◌<◌, ◌≤◌, Bool, true, false, cond, not, eqb, ltb, ◌⊎◌, List, [], ◌∷◌, ◌++◌, length, get_or, set, replicate, Some, None, Option, sym, refl, ap, ◌∙◌, inl, inr, ⊎_elim, arith}
+use Rattle.std.proofs.Common.{◌≡◌, ℕ, ◌+◌, ◌-◌, ◌<◌, ◌≤◌, Bool, true, false, cond, not, eqb, ltb, List, [], ◌∷◌, ◌++◌, length, get_or, set, replicate, Some, None, Option, sym, refl, ap, ◌∙◌, ⊎_elim, arith}
 use Rattle.std.specs.List.{slice_get}
-use Rattle.std.proofs.lemmas.List.{get_or_past, get_or-replicate, get_or-set_other, get_or-set_same, length-replicate, length-set}
+use Rattle.std.proofs.lemmas.List.{get_or-replicate, get_or-set_other, get_or-set_same, length-replicate, length-set}
 use Rattle.std.proofs.lemmas.Option.{slice_get-get_or, slice_get_past}
 use Rattle.std.proofs.lemmas.List.Sums.{sum_by-append, sum_by-cons}
 use Rattle.std.proofs.lemmas.Bool.{and_parts, cases_Bool, cases_eq, cases_lt, cond-false, cond-true, eq-eqb, eqb-true, lt-ltb, ltb-true, ne_eqb, not-true}
@@ -39,7 +39,7 @@ recounted cs ps ps' b₀ n counted here there b lt =
     (cases_eq b b₀)
 
 pub none : (n : ℕ) → Counted (replicate n 0) []
-none n b lt = let len = length-replicate n 0 in get_or-replicate n b 0 0 (omega arith)
+none n b lt = let len : length (replicate {A = ℕ} n 0) ≡ n = length-replicate n 0 in get_or-replicate n b 0 0 (omega arith)
 
 -- a count that rose or fell is that of one of the buffers
 some_more : (g n : ℕ) → more (Some g) ≡ Some n → n ≡ g + 1
@@ -61,6 +61,15 @@ fell cs b n e =
     (λ (lt : b < length cs). (lt, some_less (get_or cs b 0) n (ap less (sym (slice_get-get_or cs b 0 lt)) ∙ e)))
     (λ (le : length cs ≤ b). let h = sym (ap less (slice_get_past cs b le)) ∙ e in absurd (let z : ◌≡◌ {A = ℕ} 0 1 = cc in omega arith))
     (cases_lt b (length cs))
+
+-- a part of a piece lies where the cut says
+front_in : (t : Bool) (x f : Span) → cond t None (Some x) ≡ Some f → x.buffer ≡ f.buffer
+front_in true x f e = absurd (let z : ◌≡◌ {A = ℕ} 0 1 = cc in omega arith)
+front_in false x f e = let h : x ≡ f = cc in ap (λ s. s.buffer) h
+
+rest_in : (t : Bool) (x r : Span) → cond t (Some x) None ≡ Some r → x.buffer ≡ r.buffer
+rest_in true x r e = let h : x ≡ r = cc in ap (λ s. s.buffer) h
+rest_in false x r e = absurd (let z : ◌≡◌ {A = ℕ} 0 1 = cc in omega arith)
 
 module _ (cs : List ℕ) (ps qs : List Span) (p : Span) where
   pub add : (n : ℕ) → Counted cs (ps ++ qs) → more (slice_get cs p.buffer) ≡ Some n → Counted (set cs p.buffer n) (ps ++ p ∷ qs)
@@ -116,13 +125,7 @@ module _ (cs : List ℕ) (ps qs : List Span) (p : Span) where
 
   pub cut : (f r : Span) (k n : ℕ) → front k p ≡ Some f → rest k p ≡ Some r → Counted cs (ps ++ p ∷ qs) → more (slice_get cs p.buffer) ≡ Some n
       → Counted (set cs p.buffer n) (ps ++ f ∷ r ∷ qs)
-  cut f r k n ef er = cut_by f r n (front_buffer (eqb k 0) f ef) (rest_buffer (ltb k p.len) r er)
-    where
-      front_buffer : (t : Bool) (f : Span) → cond t None (Some (record { buffer = p.buffer; start = p.start; len = _ })) ≡ Some f → f.buffer ≡ p.buffer
-      front_buffer t f e = ?
-
-      rest_buffer : (t : Bool) (r : Span) → cond t (Some (record { buffer = p.buffer; start = _; len = _ })) None ≡ Some r → r.buffer ≡ p.buffer
-      rest_buffer t r e = ?
+  cut f r k n ef er = cut_by f r n (sym (front_in (eqb k 0) _ f ef)) (sym (rest_in (ltb k p.len) _ r er))
 
 pub no_slab : (cs : List ℕ) (ws : List (Option ℕ)) (b : ℕ) → free cs ws b ≡ true → among b ws ≡ false
 no_slab cs ws b h = not-true (among b ws) (and_parts (unleased (slice_get cs b)) (not (among b ws)) h).1

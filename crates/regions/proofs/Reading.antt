@@ -1,17 +1,16 @@
 -- The bytes of pieces. Assumes nothing.
-use Rattle.std.proofs.Common.{◌≡◌, ℕ, suc, ◌+◌, ◌-◌, ◌*◌, ◌<◌, ◌≤◌, min, Bool, true, false, cond, eqb, ltb, ◌⊎◌, List, [], ◌++◌, length, take, drop, sym, refl, ap, ◌∙◌, subst, ap₂, inl, inr, ⊎_elim, add-zero, add_assoc, arith}
-use native.Mathlib.Nat.{sub-zero}
-use lib.Seq.{paste}
+use Rattle.std.proofs.Common.{◌≡◌, ℕ, ◌+◌, ◌-◌, ◌*◌, ◌<◌, ◌≤◌, min, true, eqb, ltb, ◌⊎◌, List, ◌++◌, length, take, drop, sym, refl, ap, ◌∙◌, ap₂, inl, inr, ⊎_elim, arith}
+use Rattle.std.proofs.Math.Seq.{paste}
 use Rattle.std.proofs.lemmas.List.Edits.{drop-paste, paste_all}
-use Rattle.std.proofs.lemmas.List.{append-nil, drop_at, drop-drop, drop-take, length-append, length-drop, length-take, length-take-le, take_all, take-append-drop, take-append-le, take_at, take-take}
+use Rattle.std.proofs.lemmas.List.{append-nil, drop_at, drop-drop, drop-take, length-append, length-drop, length-take, length-take-le, take-append-drop, take-append-le, take_at, take-take}
 use Rattle.std.proofs.lemmas.Bool.{and_parts, cases_eq, cases_lt, cases_order, cond-false, cond-true, eq-eqb, eqb-true, le-ltb, lt-ltb, ne_eqb}
 use Rattle.pieces.specs.Pieces.{Span, Inside, bytes, front, joined, joins, rest}
-use Rattle.pieces.proofs.Regions.{in-region}
+use Rattle.pieces.proofs.Regions.{in_region}
 use Rattle.regions.specs.Bytes.{bytes_of}
 
 pub many : (size buffers : ℕ) (region : List ℕ) (p : Span) → length region ≡ buffers * size → Inside size buffers p → length (bytes size region p) ≡ p.len
 many size buffers region p len inside =
-    let e = in-region size buffers p.buffer (p.start + p.len) inside.0 inside.2 in
+    let e = in_region size buffers p.buffer (p.start + p.len) inside.0 inside.2 in
     length-take-le p.len (drop (p.buffer * size + p.start) region) (simp length-drop (omega arith))
 
 -- the first m + n of a list
@@ -111,12 +110,12 @@ pub other_buffer : (size buffers : ℕ) (region os : List ℕ) (b x : ℕ) (p : 
     → b + 1 ≤ buffers → x + length os ≤ size → (b ≡ p.buffer → ⊥)
     → bytes size (paste region (b * size + x) os (length os)) p ≡ bytes size region p
 other_buffer size buffers region os b x p len inside known fits apart =
-    let whole = in-region size buffers b (x + length os) (omega arith) fits in
+    let whole = in_region size buffers b (x + length os) (omega arith) fits in
     elsewhere size region os (b * size + x) p (omega arith)
     (⊎_elim (λ e. absurd (apart e))
     (⊎_elim
-    (λ (lt : b < p.buffer). let m = in-region size p.buffer b (x + length os) lt fits in inl (omega arith))
-    (λ (gt : p.buffer < b). let m = in-region size b p.buffer (p.start + p.len) gt inside.2 in inr (omega arith)))
+    (λ (lt : b < p.buffer). let m = in_region size p.buffer b (x + length os) lt fits in inl (omega arith))
+    (λ (gt : p.buffer < b). let m = in_region size b p.buffer (p.start + p.len) gt inside.2 in inr (omega arith)))
     (cases_order b p.buffer))
 
 pub written : (size : ℕ) (region os : List ℕ) (p : Span) → p.buffer * size + p.start + length os ≤ length region → p.len ≡ length os

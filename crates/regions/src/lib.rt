@@ -1,4 +1,6 @@
 // Laws of regions: what merging, cutting, writing, leasing, changing the buffer and extending a queue leave.
+#![tactic(auto)]
+
 ghost use Rattle.regions.specs.Buffers.{Buffers};
 ghost use Rattle.regions.specs.Bytes.{Bytes};
 ghost use Rattle.regions.specs.Leases.{Leases};

@@ -1,4 +1,6 @@
 // The figures of a link: those out of bounds are refused where they are made, and nowhere else.
+#![tactic(auto)]
+
 mod making;
 mod shape;
 

@@ -1,10 +1,9 @@
 use Rattle.std.proofs.Common.{min, take, replicate, ap, ◌∙◌, arith}
-use lib.ListN.{length-replicate}
-use Rattle.std.proofs.lemmas.List.{take-replicate}
+use Rattle.std.proofs.lemmas.List.{length-replicate, take-replicate}
 use Rattle.fixed.proofs.Fixed.filled.Goals as goal
 
-pub invariant-of-result : goal.invariant-of-result
-invariant-of-result g c = (length-replicate _ _, (omega arith, tt))
+pub invariant_of-result : goal.invariant_of-result
+invariant_of-result g c = record { full = length-replicate _ _; fits = omega arith }
 
 pub returns : goal.returns
 returns g c =

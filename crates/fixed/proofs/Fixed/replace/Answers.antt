@@ -1,5 +1,5 @@
 use Rattle.std.proofs.Common.{sym, arith}
-use lib.Seq.{take-set-lt}
+use Rattle.std.proofs.Math.Seq.{take-set-lt}
 use Rattle.fixed.proofs.Places.{slice_get_within, slice_get_outside, set_outside}
 use Rattle.fixed.proofs.Fixed.replace.Goals as goal
 

@@ -1,4 +1,4 @@
-use Rattle.std.proofs.Common.{◌≡◌, ◌-◌, [], ◌∷◌, map, length, set, sym, ap, ◌∙◌, arith}
+use Rattle.std.proofs.Common.{◌≡◌, ◌-◌, map, length, set, ap, ◌∙◌, arith}
 use Rattle.std.proofs.lemmas.List.{length-map, map_push, map-set}
 use Rattle.fixed.specs.Held.{held}
 use Rattle.pieces.specs.Pieces.{span}
@@ -11,7 +11,7 @@ returns-in-Some c =
     let xs = held c.args.self.now.entries in
     let es = entries c.args.self.now in
     let n = length-map xs entry in
-    let last : c.saturating-sub.result ≡ length es - 1 = omega arith in
+    let last : c.saturating_sub.result ≡ length es - 1 = omega arith in
     let g = c.in-Some.ensures.answer in
     record {
       after = (
@@ -26,7 +26,7 @@ returns-in-Ok c =
     let xs = held c.args.self.now.entries in
     let es = entries c.args.self.now in
     let n = length-map xs entry in
-    let g = c.in-default.ensures.answer in
+    let g = c.in_default.ensures.answer in
     record {
       after = (
         omega arith,

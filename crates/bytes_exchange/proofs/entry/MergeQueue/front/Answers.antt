@@ -2,7 +2,7 @@ use Rattle.std.proofs.Common.{sym, ap, ◌∙◌}
 use Rattle.std.specs.Option.{option_map}
 use Rattle.fixed.specs.Held.{held}
 use Rattle.bytes_exchange.specs.Queues.{entry}
-use Rattle.bytes_exchange.proofs.Views.{slice_get-map}
+use Rattle.std.proofs.lemmas.Option.{slice_get-map}
 use Rattle.bytes_exchange.proofs.entry.MergeQueue.front.Goals as goal
 
 pub returns : goal.returns

@@ -2,12 +2,20 @@ use Rattle.std.proofs.Common.{◌≡◌, ◌*◌, ◌%◌, ◌^◌, ◌≤◌, a
 use Rattle.std.proofs.lemmas.Nat.{one_shl}
 use Rattle.shape.proofs.shape.Shape.new.Goals as goal
 
-pub invariant-of-result : goal.invariant-of-result
-invariant-of-result c =
+pub invariant_of-result : goal.invariant_of-result
+invariant_of-result c =
     let k = c.args.exponent in
     let low : 7 ≤ k = omega arith in
     let high : k ≤ 12 = omega arith in
     let power : (1 * 2 ^ k) % 18446744073709551616 ≡ 2 ^ k = one_shl k 64 (omega arith) in
     let roomy : 2 ^ 7 ≤ 2 ^ k = pow_mono low in
     let bounded : 2 ^ k ≤ 2 ^ 12 = pow_mono high in
-    (low, (high, (power, (omega arith, (omega arith, (omega arith, (omega arith, tt)))))))
+    record {
+      least = low;
+      most = high;
+      power = power;
+      roomy = omega arith;
+      bounded = omega arith;
+      some = omega arith;
+      few = omega arith;
+    }
