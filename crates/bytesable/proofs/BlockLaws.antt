@@ -1,5 +1,5 @@
 -- What holds of the octets of a block. Assumes nothing.
-use Rattle.std.proofs.Common.{◌≡◌, ℕ, ◌<◌, ◌≤◌, List, length, take, sym, refl, ap, inl, inr, arith, length-take, take_all}
+use Rattle.std.proofs.Common.{◌≡◌, ℕ, ◌<◌, List, length, sym, ap, inl, inr, arith, length-take, take_all}
 use Rattle.std.proofs.lemmas.Bool.{cases_lt}
 use Rattle.bytesable.specs.Blocks.{block_octets}
 use Rattle.bytesable.specs.declared.block.Block.{Block}

@@ -1,5 +1,5 @@
 -- What holds of the octets of a ray. Assumes nothing.
-use Rattle.std.proofs.Common.{◌≡◌, ℕ, ◌+◌, ◌^◌, ◌<◌, Bool, ◌&&◌, eqb, List, [], ◌∷◌, ◌++◌, length, take, ℤ, Decides, sym, refl, ap, ◌∙◌, subst, append_assoc, arith, take_all, w64, SFits, to_z, of_z}
+use Rattle.std.proofs.Common.{◌≡◌, ℕ, ◌^◌, ◌<◌, ◌&&◌, eqb, List, ◌++◌, length, ℤ, Decides, sym, refl, ap, ◌∙◌, subst, arith, take_all, w64, SFits, to_z, of_z}
 use Rattle.std.proofs.lemmas.Int.{ints, to_z-of_z}
 use Rattle.std.proofs.lemmas.Bool.Decides.{Decides-like, Decides-and, Decides-eqb}
 use Rattle.octets.specs.Octets.{octets, part}

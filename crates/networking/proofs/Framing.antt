@@ -1,7 +1,7 @@
 -- What holds of the octets of a header. Assumes nothing.
-use Rattle.std.proofs.Common.{◌≡◌, ℕ, ◌+◌, ◌^◌, ◌<◌, ◌≤◌, Bool, true, false, cond, leb, List, [], ◌++◌, length, get_or, take, Some, None, Option, sym, refl, ap, ◌∙◌, append_assoc, arith, length-append, w8, Fits}
+use Rattle.std.proofs.Common.{◌≡◌, ℕ, ◌+◌, ◌<◌, ◌≤◌, Bool, true, false, cond, leb, List, [], ◌++◌, length, get_or, take, Some, None, Option, sym, refl, ap, ◌∙◌, append_assoc, arith, length-append, w8, Fits}
 use Rattle.std.proofs.lemmas.Bool.{le-leb, lt-leb, and_from, and_right}
-use Rattle.octets.specs.Octets.{value, octets, part}
+use Rattle.octets.specs.Octets.{octets, part}
 use Rattle.octets.proofs.Parts.{cut, octets_fit, short}
 use Rattle.octets.proofs.Spelling.{value_back}
 use Rattle.networking.specs.Headers.{octets_of, header_at, fields_of, is_whole, read_of, Stands, Fit}

@@ -1,5 +1,5 @@
 -- A message's header as octets. Assumes nothing.
-use Rattle.std.specs.Prelude.{◌≡◌, ℕ, ◌+◌, ◌^◌, ◌<◌, ◌≤◌, Bool, cond, ◌&&◌, List, [], ◌∷◌, ◌++◌, length, take, replicate, IfSome, Some, None, Option, MatchOption, nat_le}
+use Rattle.std.specs.Prelude.{◌≡◌, ℕ, ◌+◌, ◌^◌, ◌<◌, Bool, cond, ◌&&◌, List, ◌++◌, length, take, replicate, IfSome, Some, None, Option, MatchOption, nat_le}
 use Rattle.octets.specs.Octets.{value, octets, part}
 use Rattle.networking.specs.declared.header.MessageHeader.{MessageHeader}
 

@@ -1,5 +1,5 @@
 -- Parts of a list of octets. Assumes nothing.
-use Rattle.std.proofs.Common.{◌≡◌, ℕ, suc, ◌+◌, ◌^◌, ◌<◌, ◌≤◌, min, List, [], ◌∷◌, ◌++◌, length, get_or, take, drop, sym, refl, ap, ◌∙◌, subst, inl, inr, arith, length-drop, length-take, drop-cons, drop-drop, take-add, w8, Fits}
+use Rattle.std.proofs.Common.{◌≡◌, ℕ, suc, ◌+◌, ◌<◌, ◌≤◌, List, [], ◌∷◌, ◌++◌, length, get_or, drop, sym, refl, ap, ◌∙◌, subst, inl, inr, arith, length-drop, length-take, drop-drop, take-add, w8, Fits}
 use lib.Lanes.{Each1}
 use Rattle.std.proofs.lemmas.Simd.{length-chunk, Each1-chunk}
 use Rattle.std.proofs.lemmas.Bool.{cases_lt}

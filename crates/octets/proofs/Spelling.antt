@@ -1,7 +1,7 @@
 -- The two readings of octets are inverse, and they are what the standard library computes. Assumes nothing.
-use Rattle.std.proofs.Common.{◌≡◌, ℕ, zero, suc, ◌+◌, ◌*◌, ◌/◌, ◌%◌, ◌^◌, ◌<◌, ◌≤◌, List, [], ◌∷◌, length, get_or, sym, refl, ap, ◌∙◌, subst, add-zero, mod-eq_of_lt, mul_assoc, mul_comm, pow-suc, div-one, arith}
+use Rattle.std.proofs.Common.{◌≡◌, ℕ, zero, suc, ◌+◌, ◌*◌, ◌/◌, ◌%◌, ◌^◌, ◌<◌, List, [], ◌∷◌, length, get_or, sym, refl, ap, ◌∙◌, mod-eq_of_lt, mul_assoc, mul_comm, pow-suc, div-one, arith}
 use native.Mathlib.Nat.{mod-one, pow-succ', mul-add-div_right, mul-add-mod_self_right}
-use lib.Arith.{mod-mul, digits_div, digits_mod, digits_lt}
+use lib.Arith.{mod-mul, digits_div, digits_lt}
 use lib.Lanes.{Each1}
 use Rattle.octets.specs.Octets.{value, octets}
 

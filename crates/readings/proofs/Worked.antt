@@ -1,8 +1,8 @@
 -- The worked readings follow from the definitions. Assumes nothing.
-use Rattle.std.proofs.Common.{◌≡◌, ℕ, ◌+◌, ◌^◌, ◌<◌, ◌≤◌, true, false, cond, leb, List, [], ◌∷◌, ◌++◌, length, take, drop, pos, Some, None, sym, refl, ap, ◌∙◌, subst, arith, length-append, length-take, length-take-le, take_all}
-use lib.Ieee.{fin, binary64, to_bits, fits, size, climb, span}
-use Rattle.std.proofs.lemmas.Bool.{le-leb, lt-leb, and_from, and_right}
-use Rattle.octets.specs.Octets.{octets, part}
+use Rattle.std.proofs.Common.{◌≡◌, ℕ, ◌+◌, true, false, cond, leb, List, [], ◌∷◌, ◌++◌, length, take, pos, Some, None, refl, ap, ◌∙◌, arith, length-append, length-take-le, take_all}
+use lib.Ieee.{fin, to_bits, fits, size, climb}
+use Rattle.std.proofs.lemmas.Bool.{lt-leb, and_right}
+use Rattle.octets.specs.Octets.{octets}
 use Rattle.octets.specs.Patterns.{pattern_of}
 use Rattle.networking.specs.Headers.{octets_of, header_at, is_whole, read_of, Fit}
 use Rattle.networking.specs.declared.header.MessageHeader.{MessageHeader}

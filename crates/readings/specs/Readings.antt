@@ -1,5 +1,5 @@
 -- Worked readings of the wire format. Assumes nothing.
-use Rattle.std.specs.Prelude.{◌≡◌, ℕ, true, false, List, [], ◌∷◌, take, pos, Some, None}
+use Rattle.std.specs.Prelude.{◌≡◌, true, false, [], ◌∷◌, take, pos, Some, None}
 use Rattle.std.specs.Float.{fin}
 use Rattle.networking.specs.Headers.{read_of, Fit}
 use Rattle.networking.specs.declared.header.MessageHeader.{MessageHeader}

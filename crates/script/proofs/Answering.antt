@@ -1,7 +1,6 @@
 -- How the answer to a line follows from the answers to its parts. Assumes nothing.
-use Rattle.std.proofs.Common.{◌≡◌, ℕ, ◌<◌, Bool, true, false, cond, eqb, List, [], ◌∷◌, length, get_or, Some, None, Ok, Err, MatchBool, Option, Result, sym, refl, ap, ◌∙◌, subst, arith, MatchOption}
+use Rattle.std.proofs.Common.{◌≡◌, ℕ, false, cond, eqb, List, ◌∷◌, length, get_or, Some, None, Ok, Err, Option, sym, refl, ap, ◌∙◌, subst, arith, MatchOption}
 use Rattle.std.proofs.lemmas.Bool.{ne_eqb}
-use Rattle.answers.specs.Faults.{number_of}
 use Rattle.answers.specs.declared.Fault.{Fault}
 use Rattle.networking.specs.declared.header.MessageHeader.{MessageHeader}
 use Rattle.script.specs.Names.{verb_of}

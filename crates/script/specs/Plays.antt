@@ -1,5 +1,5 @@
 -- What is answered to a line of a script, by its words. Assumes nothing.
-use Rattle.std.specs.Prelude.{◌≡◌, ℕ, ◌<◌, ◌≤◌, cond, List, [], ◌∷◌, length, Some, None, vec_items, MatchBool, Option, MatchOption, ◌==◌, ◌≢◌, slice_index}
+use Rattle.std.specs.Prelude.{◌≡◌, ℕ, ◌<◌, ◌≤◌, cond, List, [], ◌∷◌, length, Some, None, vec_items, MatchBool, MatchOption, ◌==◌, ◌≢◌, slice_index}
 use Rattle.answers.specs.Faults.{number_of}
 use Rattle.networking.specs.Headers.{read_of}
 use Rattle.networking.specs.declared.header.MessageHeader.{MessageHeader}

@@ -1,5 +1,5 @@
 -- What is printed of an answer. Assumes nothing.
-use Rattle.std.specs.Prelude.{ℕ, List, [], ◌∷◌, ◌++◌, Some, None, vec_items, codes, decimal, Option, to_bits, Float}
+use Rattle.std.specs.Prelude.{ℕ, List, [], ◌++◌, Some, None, vec_items, codes, decimal, Option, to_bits, Float}
 use Rattle.std.specs.Float.{binary64}
 use Rattle.std.specs.Fmt.{signed_decimal}
 use Rattle.answers.specs.Faults.{number_of}

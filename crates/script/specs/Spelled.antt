@@ -1,5 +1,5 @@
 -- What the words of a message line spell. Assumes nothing.
-use Rattle.std.specs.Prelude.{◌≡◌, ℕ, ◌-◌, ◌^◌, ◌<◌, List, [], ◌∷◌, length, ℤ, Some, None, Ok, Err, Option, Result, from_bits, Float}
+use Rattle.std.specs.Prelude.{◌≡◌, ℕ, ◌-◌, ◌^◌, ◌<◌, List, [], ◌∷◌, length, Some, None, Ok, Err, Option, Result, from_bits, Float}
 use Rattle.std.specs.Float.{binary64}
 use Rattle.std.specs.Option.{option_map}
 use Rattle.answers.specs.Faults.{number_of as fault_number}
@@ -10,7 +10,6 @@ use Rattle.words.specs.Hexadecimals.{bytes_of, pattern_of}
 use Rattle.bytesable.specs.Blocks.{block_octets}
 use Rattle.bytesable.specs.Rays.{ray_octets}
 use Rattle.bytesable.specs.Tweaks.{tweak_octets}
-use Rattle.bytesable.specs.declared.ray.Ray.{Ray}
 use Rattle.bytesable.specs.declared.tweak.Tweak.TheVariants.{Thickness, Tilt, Index}
 use Rattle.script.specs.Names.{form_of}
 use Rattle.script.specs.declared.element.Form.{Form}

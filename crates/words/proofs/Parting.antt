@@ -1,8 +1,8 @@
 -- Lines that are parted at blanks. Assumes nothing.
-use Rattle.std.proofs.Common.{◌≡◌, ℕ, suc, ◌+◌, ◌-◌, ◌<◌, true, false, cond, eqb, List, [], ◌∷◌, ◌++◌, map, length, get_or, take, sym, refl, ap, ◌∙◌, subst, arith}
+use Rattle.std.proofs.Common.{◌≡◌, ℕ, suc, ◌+◌, ◌-◌, ◌<◌, false, cond, eqb, List, [], ◌∷◌, ◌++◌, map, length, get_or, take, sym, refl, ap, ◌∙◌, arith}
 use Rattle.std.proofs.lemmas.List.{take_more, map-append}
 use Rattle.std.proofs.lemmas.Bool.{ne_eqb}
-use Rattle.words.specs.Lines.{onto, pieces_of, filled, words_of, plain_of, unreturned}
+use Rattle.words.specs.Lines.{pieces_of, filled, words_of, plain_of, unreturned}
 
 -- no byte is a blank
 abbrev pub Unparted : List ℕ → Type 0

@@ -1,5 +1,4 @@
-use Rattle.std.proofs.Common.{◌≡◌, ◌+◌, ◌-◌, ◌<◌, ◌≤◌, ◌++◌, length, drop, Some, sym, refl, ap, ◌∙◌, arith, length-drop, length-take-le, drop_at}
-use borrow.Rule.Slice.PartMut.{put_mid}
+use Rattle.std.proofs.Common.{◌≡◌, ◌+◌, ◌-◌, ◌++◌, length, drop, Some, sym, ap, ◌∙◌, arith, length-drop, length-take-le, drop_at}
 use Rattle.networking.specs.Headers.{octets_of, read_of}
 use Rattle.networking.proofs.Framing.{length-octets_of}
 use Rattle.framing.specs.Messages.{sized, message_of}

@@ -1,4 +1,4 @@
-use Rattle.std.proofs.Common.{◌≡◌, ◌+◌, ◌≤◌, [], ◌∷◌, ◌++◌, length, sym, refl, ap, ◌∙◌, arith}
+use Rattle.std.proofs.Common.{◌≡◌, ◌+◌, ◌++◌, length, sym, refl, ap, ◌∙◌, arith}
 use lib.Seq.{paste}
 use Rattle.octets.specs.Octets.{octets}
 use Rattle.octets.proofs.Laying.{lays_ok, paste-paste}

@@ -1,4 +1,4 @@
-use Rattle.std.proofs.Common.{ℕ, ◌+◌, ◌≤◌, length, refl, arith}
+use Rattle.std.proofs.Common.{◌+◌, ◌≤◌, length, refl, arith}
 use Rattle.std.proofs.lemmas.Bool.{both_ways}
 use Rattle.octets.specs.Octets.{octets}
 use Rattle.bytesable.proofs.Fielding.{field_parts, field_read, head_there}

@@ -1,5 +1,4 @@
 use Rattle.std.proofs.Common.{◌≡◌, T, eqb, sym, ap, ◌∙◌, subst}
-use lib.Ieee.{binary64, fits}
 use Rattle.std.proofs.lemmas.Bool.Decides.{Decides-like, Decides-eqb}
 use Rattle.octets.specs.Octets.{octets}
 use Rattle.octets.specs.Patterns.{pattern_of}

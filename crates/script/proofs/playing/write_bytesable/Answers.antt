@@ -1,4 +1,4 @@
-use Rattle.std.proofs.Common.{◌≡◌, ◌+◌, length, ap, ◌∙◌, arith, take_at}
+use Rattle.std.proofs.Common.{length, ap, ◌∙◌, arith, take_at}
 use Rattle.framing.proofs.Joining.{length-message_of}
 use Rattle.script.proofs.playing.write_bytesable.Goals as goal
 

@@ -1,6 +1,6 @@
 use Rattle.std.proofs.Common.{arith, length-take}
 use Rattle.bytesable.proofs.RayLaws.{length-ray_octets}
-use Rattle.bytesable.proofs.TweakLaws.{size_of, length-tweak_octets, size_most}
+use Rattle.bytesable.proofs.TweakLaws.{length-tweak_octets, size_most}
 use Rattle.script.proofs.playing.write_element.Goals as goal
 
 pub write_bytesable-requires : goal.write_bytesable-requires

@@ -1,4 +1,4 @@
-use Rattle.std.proofs.Common.{◌≡◌, [], ◌∷◌, ◌++◌, map, length, get_or, take, string_bytes, sym, ap, ◌∙◌, arith, take_all}
+use Rattle.std.proofs.Common.{[], ◌∷◌, ◌++◌, map, take, string_bytes, sym, ap, ◌∙◌, take_all}
 use Rattle.words.specs.Lines.{plain_of}
 use Rattle.words.proofs.Parting.{plain_more}
 use Rattle.words.proofs.line.line_text.Goals as goal

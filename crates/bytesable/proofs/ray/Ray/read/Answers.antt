@@ -1,4 +1,4 @@
-use Rattle.std.proofs.Common.{length, sym, ap, ◌∙◌, arith, rules}
+use Rattle.std.proofs.Common.{length, ap, ◌∙◌, rules}
 use Rattle.bytesable.proofs.RayLaws.{length-ray_octets, ray_parts, ray_whole, held}
 use Rattle.bytesable.proofs.ray.Ray.read.Goals as goal
 

@@ -1,4 +1,4 @@
-use Rattle.std.proofs.Common.{◌≡◌, sym, refl, ap, ◌∙◌, append_assoc, arith, rules}
+use Rattle.std.proofs.Common.{sym, refl, ◌∙◌, append_assoc, arith, rules}
 use Rattle.octets.proofs.Pasting.{begin, more, done}
 use Rattle.bytesable.proofs.Fielding.{length-field}
 use Rattle.bytesable.proofs.RayLaws.{length-ray_octets, surface_of, height_of, path_of, ray_octets_spelled, held}

@@ -1,4 +1,4 @@
-use Rattle.std.proofs.Common.{◌≡◌, ◌≤◌, ◌++◌, length, sym, refl, ap, ◌∙◌, arith}
+use Rattle.std.proofs.Common.{◌≡◌, ◌++◌, length, sym, refl, ap, ◌∙◌, arith}
 use Rattle.octets.proofs.Laying.{lays_ok, fills_ok}
 use Rattle.octets.proofs.Pasting.{begin, more, done}
 use Rattle.octets.proofs.Spelling.{length-octets}

@@ -1,4 +1,4 @@
-use Rattle.std.proofs.Common.{◌≡◌, ◌<◌, ◌≤◌, length, sym, refl, ap, ◌∙◌, arith, rules}
+use Rattle.std.proofs.Common.{◌≤◌, length, sym, arith, rules}
 use Rattle.octets.proofs.Parts.{there}
 use Rattle.networking.specs.Headers.{Fit}
 use Rattle.networking.specs.declared.header.MessageHeader.{MessageHeader}

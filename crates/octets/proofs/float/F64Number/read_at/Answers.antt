@@ -1,4 +1,4 @@
-use Rattle.std.proofs.Common.{◌≡◌, ◌^◌, ◌<◌, sym, ap, ◌∙◌, rules}
+use Rattle.std.proofs.Common.{◌^◌, ◌<◌, sym, ap, ◌∙◌, rules}
 use Rattle.octets.specs.Octets.{octets}
 use Rattle.octets.specs.Patterns.{pattern_of}
 use Rattle.octets.proofs.Floats.{pattern_lt, taken_back, not_taken}
