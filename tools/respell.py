@@ -4,8 +4,8 @@
 usage: python3 tools/respell.py [FOLDER]      over FOLDER/crates (default: the repository of this script), once, after the kit's port.py
 
 Definitions and fields are in snake case. In a lemma's name a dash joins two names, as in length-octets; a plain word is added by an
-underscore. A lemma that would have the name of its definition ends in _lem. Only .antt and .rt files are turned, and in .rt files no
-function's name, string or comment: none of the names below stands there.
+underscore. A lemma that would have the name of its definition ends in _lem. Only .antt and .rt files are turned, and no comment; none of
+the names below is a function's, or stands in a string.
 """
 
 import os
@@ -60,12 +60,19 @@ NAMES = {name: snake(name) for name in PLAIN} | OTHERS
 OLD = re.compile(r"(?<![\w'-])(" + "|".join(re.escape(n) for n in sorted(NAMES, key=len, reverse=True)) + r")(?![\w'-])")
 
 
+def turned(line):
+    """A line with its names respelled, up to where a comment begins."""
+    comment = re.search(r"--( |$)|//", line)
+    end = comment.start() if comment else len(line)
+    return OLD.sub(lambda m: NAMES[m.group(1)], line[:end]) + line[end:]
+
+
 def main():
     top = sys.argv[1] if len(sys.argv) > 1 else os.path.join(os.path.dirname(os.path.abspath(__file__)), "..")
     twice = sorted(n for n in set(NAMES.values()) if list(NAMES.values()).count(n) > 1)
     if twice:
         raise SystemExit("these fall together: " + ", ".join(twice))
-    turned = 0
+    files_turned = 0
     for folder, dirs, files in os.walk(os.path.join(top, "crates")):
         dirs[:] = sorted(d for d in dirs if d not in ("out", "must-fail"))
         for name in sorted(files):
@@ -74,12 +81,12 @@ def main():
             path = os.path.join(folder, name)
             with open(path, encoding="utf-8") as f:
                 text = f.read()
-            new = OLD.sub(lambda m: NAMES[m.group(1)], text)
+            new = "\n".join(turned(line) for line in text.split("\n"))
             if new != text:
-                turned += 1
+                files_turned += 1
                 with open(path, "w", encoding="utf-8") as f:
                     f.write(new)
-    print(f"respell: {len(NAMES)} names, {turned} files turned")
+    print(f"respell: {len(NAMES)} names, {files_turned} files turned")
 
 
 if __name__ == "__main__":
