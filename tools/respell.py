@@ -24,7 +24,7 @@ decides-index decides-not-tilt decides-thickness decides-tilt digit-back field-p
 first-before first-behind first-here first-later first-none first-octet first-pair from-capped from-none front-and-rest front-none
 head-there header-back height-of index-minus-zero index-spelled inf-is is-pattern joined-front last-map lays-as lays-ok mapped-more
 message-refused message-unspelled message-written more-digits nan-of no-blank no-fit no-head no-number-is no-piece no-ray
-no-single no-slab no-tilt none-counted none-moved none-of-run normal-is not-Index not-Thickness not-Tilt not-whole number-back
+no-single no-slab no-tilt none-counted none-moved none-of-run normal-is not-whole number-back
 numeral-more numeral-none octets-4 octets-8 octets-above octets-back octets-fit octets-same one-here one-there other-buffer pair-at
 pairs-back pairs-odd parsed-unsigned part-3 passes-by past-blank path-of pattern-back pattern-nan pattern-ways pieces-first pieces-last
 plays-none plays-verb pos-256 pow-16 pow-16-pos ray-decides ray-message ray-parts ray-whole read-digit read-front
