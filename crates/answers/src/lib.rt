@@ -4,52 +4,54 @@
 ghost use Rattle.std.specs.Prelude.{◌≡◌};
 ghost use Rattle.answers.specs.Faults.{number_of, place_of};
 
-#[derive(Clone, Copy, Debug, PartialEq)]
+use thiserror::Error;
+
+#[derive(Clone, Copy, Debug, PartialEq, Eq, Hash, Error)]
 pub enum Fault {
-    // An opening figure is out of bounds.
+    #[error("an opening figure is out of bounds")]
     FigureOutOfBounds,
-    // A lent region is not as long as its buffers.
+    #[error("the lent region is not as long as its buffers")]
     RegionLength,
-    // At opening the store holds a chunk, or the stream a byte or is shut.
+    #[error("the store holds a chunk, or the stream holds a byte or is shut")]
     NotFresh,
-    // A handle or puller names nothing that is open here, or handle and pusher differ.
+    #[error("the handle or puller names nothing that is open here, or handle and pusher differ")]
     NotOpen,
-    // A pusher's range is empty or leaves the targets.
+    #[error("the range of the pusher is empty or leaves the targets")]
     PusherRange,
-    // The payload has no byte, or more than a buffer holds behind a header.
+    #[error("the payload has no byte, or more than a buffer holds behind a header")]
     PayloadLength,
-    // The source's queue holds as many entries as it may.
+    #[error("the queue of the source is full")]
     QueueFull,
-    // Too few buffers are free.
+    #[error("too few buffers are free")]
     NoFreeBuffer,
-    // The piece in hand is another source's.
+    #[error("the piece in hand is of another source")]
     OtherSourceInHand,
-    // At finish a source is open, a queue has an entry, or a piece is in hand.
+    #[error("a source is open, a queue has an entry, or a piece is in hand")]
     Unfinished,
-    // The channel's identifier is not above all opened at the target.
+    #[error("the identifier of the channel is not above all opened at the target")]
     IdentifierNotAbove,
-    // The target's table has no place for another channel.
+    #[error("the target has no place for another channel")]
     TableFull,
-    // No source or target has the number.
+    #[error("no source or target has the number")]
     NoSuchIndex,
-    // The payload is no value of the type wanted.
+    #[error("the payload is no value of the type wanted")]
     NoValue,
-    // The stream is shut and empty, and no closing header came.
+    #[error("the stream ended behind byte {0} with no closing header")]
     Torn(u64),
-    // A byte follows the closing header.
+    #[error("a byte follows the closing header, behind byte {0}")]
     BehindClosing(u64),
-    // A header that does not close has an overlong length or a bad range.
+    #[error("behind byte {0} stands a header with an overlong length or a bad range")]
     BadHeader(u64),
-    // The store has too few units for an allowed chunk.
+    #[error("the store has too few units for an allowed chunk")]
     NoUnits,
-    // A failing fetch is due.
+    #[error("a failing fetch is due")]
     FetchFailed,
-    // A lent part of another length, an unknown chunk, or a chunk of no allowed length.
+    #[error("a lent part of another length, an unknown chunk, or a chunk of no allowed length")]
     Mismatched,
 }
 
 impl Fault {
-    // The number by which the refusal is known.
+    // The number by which the refusal is known. It tells less than the fault, which may carry a place: so this is no `From`.
     pub fn number(self) -> u8
         ensures answer { result ≡ number_of self }
     {
@@ -82,9 +84,7 @@ impl Fault {
         ensures answer { result ≡ place_of self }
     {
         match self {
-            Fault::Torn(place) => Some(place),
-            Fault::BehindClosing(place) => Some(place),
-            Fault::BadHeader(place) => Some(place),
+            Fault::Torn(at) | Fault::BehindClosing(at) | Fault::BadHeader(at) => Some(at),
             _ => None,
         }
     }

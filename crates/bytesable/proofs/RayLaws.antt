@@ -1,7 +1,7 @@
 -- What holds of the octets of a ray. Assumes nothing.
-use Rattle.std.proofs.Common.{◌≡◌, ℕ, ◌^◌, ◌<◌, ◌&&◌, eqb, List, ◌++◌, length, ℤ, Decides, sym, refl, ap, ◌∙◌, subst, arith, take_all, w64, SFits, to_z, of_z}
+use Rattle.std.proofs.Common.{◌≡◌, ℕ, ◌^◌, ◌<◌, ◌&&◌, eqb, int_eq, List, ◌++◌, length, ℤ, Decides, sym, refl, ap, ◌∙◌, subst, arith, take_all, w64, SFits, to_z, of_z}
 use Rattle.std.proofs.lemmas.Int.{ints, to_z-of_z}
-use Rattle.std.proofs.lemmas.Bool.Decides.{Decides-like, Decides-and, Decides-eqb}
+use Rattle.std.proofs.lemmas.Bool.Decides.{Decides-like, Decides-and, Decides-eqb, Decides-int_eq}
 use Rattle.octets.specs.Octets.{octets, part}
 use Rattle.octets.proofs.Parts.{cut}
 use Rattle.bytesable.specs.Fields.{head}
@@ -49,16 +49,22 @@ pub record RayFits (r : Ray) : Type 0 where
 of_z-lt : (z : ℤ) → SFits w64 z → of_z w64 z < 256 ^ 8
 of_z-lt z f = omega (arith, ints)
 
--- the three tests of `same` tell whether two rays have the same octets
-pub ray_decides : (a b : Ray) → RayFits a → RayFits b → Decides ((eqb a.surface b.surface && eqb (of_z w64 a.height) (of_z w64 b.height)) && eqb (of_z w64 a.path) (of_z w64 b.path)) (ray_octets a ≡ ray_octets b)
+-- a signed number is told by its octets
+of_z_same : (y z : ℤ) → SFits w64 y → SFits w64 z → of_z w64 y ≡ of_z w64 z → y ≡ z
+of_z_same y z f g e = sym (to_z-of_z w64 y f) ∙ ap (to_z w64) e ∙ to_z-of_z w64 z g
+
+-- two rays with the same fields have the same octets, and no others
+pub ray_decides : (a b : Ray) → RayFits a → RayFits b → Decides (eqb a.surface b.surface && (int_eq a.height b.height && int_eq a.path b.path)) (ray_octets a ≡ ray_octets b)
 ray_decides a b f g =
     Decides-like _
-    (λ t. sym (ray_octets_spelled a) ∙ rw (t.0.0, t.0.1, t.1) (ray_octets_spelled b))
+    (λ t. sym (ray_octets_spelled a) ∙ rw (t.0, t.1.0, t.1.1) (ray_octets_spelled b))
     (λ e.
     let p = ray_parts a (ray_octets b) (sym e) in
     let q = ray_parts b (ray_octets b) refl in
-    ((same_content 4 1 4 f.surface g.surface (sym p.surface ∙ q.surface), same_content 8 2 8 (of_z-lt _ f.height) (of_z-lt _ g.height) (sym p.height ∙ q.height)), same_content 8 3 8 (of_z-lt _ f.path) (of_z-lt _ g.path) (sym p.path ∙ q.path)))
-    (Decides-and _ _ (Decides-and _ _ (Decides-eqb _ _) (Decides-eqb _ _)) (Decides-eqb _ _))
+    let height = same_content 8 2 8 (of_z-lt _ f.height) (of_z-lt _ g.height) (sym p.height ∙ q.height) in
+    let path = same_content 8 3 8 (of_z-lt _ f.path) (of_z-lt _ g.path) (sym p.path ∙ q.path) in
+    (same_content 4 1 4 f.surface g.surface (sym p.surface ∙ q.surface), (of_z_same _ _ f.height g.height height, of_z_same _ _ f.path g.path path)))
+    (Decides-and _ _ (Decides-eqb _ _) (Decides-and _ _ (Decides-int_eq _ _) (Decides-int_eq _ _)))
 
 -- a signed number that a variable has held
 pub held : (z : ℤ) (t s : ℕ) → SFits w64 z → head t s ++ octets 8 (of_z w64 z) ≡ head t s ++ octets 8 (of_z w64 (to_z w64 (of_z w64 z)))

@@ -1,9 +1,12 @@
 -- What holds of the octets of a tweak. Assumes nothing.
-use Rattle.std.proofs.Common.{◌≡◌, ℕ, ◌≤◌, Bool, true, false, ◌&&◌, List, ◌++◌, length, get_or, drop, Decides, sym, refl, ap, ◌∙◌, subst, arith, take_all}
+use Rattle.std.proofs.Common.{◌≡◌, ℕ, ◌≤◌, Bool, true, false, ◌&&◌, List, ◌++◌, length, get_or, drop, Decides, Some, None, Option, Result, sym, refl, ap, ◌∙◌, subst, arith, take_all, ◌⊎◌, inl, inr}
 use lib.Ieee.{Float}
 use Rattle.std.proofs.lemmas.Bool.{both_ways}
 use Rattle.std.proofs.lemmas.Bool.Decides.{Decides-like, Decides-and}
-use Rattle.octets.specs.Octets.{octets, part}
+use Rattle.std.specs.Option.{option_map, option_or}
+use Rattle.answers.specs.Faults.{Fills}
+use Rattle.answers.specs.declared.Fault.{Fault}
+use Rattle.octets.specs.Octets.{octets, part, Reads}
 use Rattle.octets.proofs.Parts.{cut}
 use Rattle.bytesable.specs.Fields.{head}
 use Rattle.bytesable.specs.Tweaks.{double, tweak_octets}
@@ -25,6 +28,11 @@ unfolding octets tweak_octets
 length-tweak_octets (Thickness x) = refl
 length-tweak_octets (Tilt x y) = refl
 length-tweak_octets (Index x) = refl
+
+-- a tweak of one float
+pub length-single : (t : Tweak) → ((x : Float) × (t ≡ Thickness x)) ⊎ ((x : Float) × (t ≡ Index x)) → 11 ≡ length (tweak_octets t)
+length-single t (inl p) = sym (length-tweak_octets t ∙ ap size_of p.1)
+length-single t (inr p) = sym (length-tweak_octets t ∙ ap size_of p.1)
 
 first_octet : (t : Tweak) → get_or (tweak_octets t) 0 0 ≡ tag_of t
 unfolding octets tweak_octets
@@ -50,16 +58,20 @@ tilt_spelled x y = refl
 all_of : (bs : List ℕ) (n : ℕ) → length bs ≡ n → part 0 n bs ≡ bs
 all_of bs n l = take_all n bs (omega arith)
 
-pub reads_thickness : (bs : List ℕ) (x : Float) → length bs ≡ 11 → part 0 11 bs ≡ head 16 8 ++ double x → bs ≡ tweak_octets (Thickness x)
-reads_thickness bs x l e = sym (all_of bs 11 l) ∙ e ∙ thickness_spelled x
-
-pub reads_index : (bs : List ℕ) (x : Float) → length bs ≡ 11 → part 0 11 bs ≡ head 18 8 ++ double x → bs ≡ tweak_octets (Index x)
-reads_index bs x l e = sym (all_of bs 11 l) ∙ e ∙ index_spelled x
+pub reads_single : (bs : List ℕ) {os ps : List ℕ} → length bs ≡ 11 → part 0 11 bs ≡ os → os ≡ ps → bs ≡ ps
+reads_single bs l e spelled = sym (all_of bs 11 l) ∙ e ∙ spelled
 
 pub no_single : (bs : List ℕ) → length bs ≡ 11 → ((x : Float) → part 0 11 bs ≡ head 16 8 ++ double x → ⊥) → ((x : Float) → part 0 11 bs ≡ head 18 8 ++ double x → ⊥) → (t : Tweak) → bs ≡ tweak_octets t → ⊥
 no_single bs l p q (Thickness x) e = p x (all_of bs 11 l ∙ e ∙ sym (thickness_spelled x))
 no_single bs l p q (Index x) e = q x (all_of bs 11 l ∙ e ∙ sym (index_spelled x))
 no_single bs l p q (Tilt x y) e = omega (arith, ap length e, length-tweak_octets (Tilt x y))
+
+-- a tweak of one float is read as the one or as the other
+pub single_or : (bs : List ℕ) (r s : Option Float) (t : Option Tweak) → length bs ≡ 11 → Reads (λ x. head 16 8 ++ double x) (part 0 11 bs) r → Reads (λ x. head 18 8 ++ double x) (part 0 11 bs) s
+    → t ≡ option_or (option_map Thickness r) (option_map Index s) → Reads tweak_octets bs t
+single_or bs None None t l p q e = rw e (no_single bs l p q)
+single_or bs None (Some x) t l p q e = rw e (reads_single bs l q (index_spelled x))
+single_or bs (Some x) s t l p q e = rw e (reads_single bs l p (thickness_spelled x))
 
 -- what stands at the places of a tilt's octets
 pub tilt_first : (bs : List ℕ) (x y : Float) → bs ≡ tweak_octets (Tilt x y) → part 0 11 bs ≡ head 17 16 ++ double x
@@ -91,17 +103,12 @@ same_tag s t e = sym (first_octet s) ∙ ap (λ l. get_or l 0 0) e ∙ first_oct
 content : (s t : ℕ) (os ps : List ℕ) → head s t ++ os ≡ head s t ++ ps → os ≡ ps
 content s t os ps e = ap (drop 3) e
 
-pub decides_thickness : (r : Bool) (a b : Float) → Decides r (double a ≡ double b) → Decides r (tweak_octets (Thickness a) ≡ tweak_octets (Thickness b))
-decides_thickness r a b =
+-- tweaks of one float, with one tag
+pub decides_single : (r : Bool) (tag : ℕ) (s t : Tweak) (a b : Float) → head tag 8 ++ double a ≡ tweak_octets s → head tag 8 ++ double b ≡ tweak_octets t → Decides r (double a ≡ double b) → Decides r (tweak_octets s ≡ tweak_octets t)
+decides_single r tag s t a b p q =
     Decides-like r
-    (λ e. sym (thickness_spelled a) ∙ ap (λ l. head 16 8 ++ l) e ∙ thickness_spelled b)
-    (λ e. content 16 8 (double a) (double b) (thickness_spelled a ∙ e ∙ sym (thickness_spelled b)))
-
-pub decides_index : (r : Bool) (a b : Float) → Decides r (double a ≡ double b) → Decides r (tweak_octets (Index a) ≡ tweak_octets (Index b))
-decides_index r a b =
-    Decides-like r
-    (λ e. sym (index_spelled a) ∙ ap (λ l. head 18 8 ++ l) e ∙ index_spelled b)
-    (λ e. content 18 8 (double a) (double b) (index_spelled a ∙ e ∙ sym (index_spelled b)))
+    (λ e. sym p ∙ ap (λ l. head tag 8 ++ l) e ∙ q)
+    (λ e. content tag 8 (double a) (double b) (p ∙ e ∙ sym q))
 
 pub decides_tilt : (r s : Bool) (a b c d : Float) → Decides r (double a ≡ double c) → Decides s (double b ≡ double d) → Decides (r && s) (tweak_octets (Tilt a b) ≡ tweak_octets (Tilt c d))
 decides_tilt r s a b c d p q =
@@ -135,6 +142,10 @@ apart_index x (Index y) other = absurd (other y refl)
 -- tweaks that are known by their variants
 pub decides_as : (r : Bool) {s u t v : Tweak} → s ≡ u → t ≡ v → Decides r (tweak_octets u ≡ tweak_octets v) → Decides r (tweak_octets s ≡ tweak_octets t)
 decides_as r e f d = Decides-like r (λ h. ap tweak_octets e ∙ h ∙ ap tweak_octets (sym f)) (λ h. ap tweak_octets (sym e) ∙ h ∙ ap tweak_octets f) d
+
+-- a part that is filled with octets is filled with all that they are
+pub fills_as : {V : Type 0} {os ps : List ℕ} (before : List ℕ) (r : Result V Fault) (after : List ℕ) → os ≡ ps → Fills os before r after → Fills ps before r after
+fills_as {V} before r after e h = subst (λ (xs : List ℕ). Fills {V = V} xs before r after) e h
 
 pub size_most : (t : Tweak) → size_of t ≤ 19
 size_most (Thickness x) = omega arith

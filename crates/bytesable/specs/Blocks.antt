@@ -1,7 +1,8 @@
 -- A block as octets. Assumes nothing.
-use Rattle.std.specs.Prelude.{ℕ, List, take}
+use Rattle.std.specs.Prelude.{ℕ, List}
+use Rattle.fixed.specs.Held.{held}
 use Rattle.bytesable.specs.declared.block.Block.{Block}
 
 -- the octets themselves, with no tag
 abbrev pub block_octets : Block → List ℕ
-block_octets b = take b.len b.bytes
+block_octets b = held b.octets

@@ -27,10 +27,9 @@ pub(crate) fn put_field<N: Number + Drop>(
 fn has_head(bytes: &[u8], at: usize, tag: u8, size: u8) -> bool
     ensures { Decides result (part at 3 bytes.now ≡ head tag size) }
 {
-    if at > bytes.len() || bytes.len() - at < 3 {
-        return false;
-    }
-    bytes[at] == tag && bytes[at + 1] == 0 && bytes[at + 2] == size
+    bytes
+        .get(at..)
+        .is_some_and(|rest| rest.starts_with(&[tag, 0, size]))
 }
 
 // The number that the content of a field begins with, where a field with this tag and length stands in `bytes` from `at` on.

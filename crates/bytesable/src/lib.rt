@@ -2,7 +2,6 @@
 #![tactic(auto)]
 
 mod block;
-mod blocks;
 mod element;
 mod field;
 mod ray;

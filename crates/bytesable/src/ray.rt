@@ -1,5 +1,5 @@
 // A ray where it meets a surface.
-ghost use Rattle.std.specs.Prelude.{ℕ, List};
+ghost use Rattle.std.specs.Prelude.{◌≡◌, Decides};
 ghost use Rattle.octets.specs.Octets.{Reads};
 ghost use Rattle.bytesable.specs.Rays.{ray_octets};
 
@@ -7,7 +7,7 @@ use crate::element::Bytesable;
 use crate::field::{put_field, read_field};
 use answers::Fault;
 
-#[derive(Clone, Copy, Debug, Default)]
+#[derive(Clone, Copy, Debug, Default, PartialEq, Eq, Hash)]
 pub struct Ray {
     // The number of the surface.
     pub surface: u32,
@@ -38,6 +38,13 @@ impl Ray {
     }
 }
 
+// Whether two rays mean the same octets. They are taken by value: a proof knows then that each field fits its type.
+fn same_ray(a: Ray, b: Ray) -> bool
+    ensures { Decides result (ray_octets a ≡ ray_octets b) }
+{
+    a == b
+}
+
 impl Bytesable for Ray {
     ghost bytes = { ray_octets };
 
@@ -56,17 +63,11 @@ impl Bytesable for Ray {
     }
 
     fn from_bytes(&mut self, from: &[u8]) -> Result<(), Fault> {
-        match Ray::read(from) {
-            Some(ray) => {
-                *self = ray;
-                Ok(())
-            }
-            None => Err(Fault::NoValue),
-        }
+        *self = Ray::read(from).ok_or(Fault::NoValue)?;
+        Ok(())
     }
 
     fn same(&self, other: &Ray) -> bool {
-        // `&` reads every field, and a proof knows that a field fits its type once it is read.
-        (self.surface == other.surface) & (self.height == other.height) & (self.path == other.path)
+        same_ray(*self, *other)
     }
 }

@@ -1,6 +1,8 @@
 // A change of one figure of a lens stack.
-ghost use Rattle.std.specs.Prelude.{◌≡◌, length, Decides};
+ghost use Rattle.std.specs.Prelude.{◌≡◌, ◌++◌, length, Decides};
+ghost use Rattle.answers.specs.Faults.{Fills};
 ghost use Rattle.octets.specs.Octets.{Reads};
+ghost use Rattle.bytesable.specs.Fields.{head};
 ghost use Rattle.bytesable.specs.Tweaks.{double, tweak_octets};
 
 use crate::element::Bytesable;
@@ -29,12 +31,10 @@ impl Tweak {
     fn read(from: &[u8]) -> Option<Tweak>
         ensures answer { Reads tweak_octets from.now result }
     {
-        if from.len() == SINGLE {
-            Tweak::read_single(from)
-        } else if from.len() == DOUBLE {
-            Tweak::read_tilt(from)
-        } else {
-            None
+        match from.len() {
+            SINGLE => Tweak::read_single(from),
+            DOUBLE => Tweak::read_tilt(from),
+            _ => None,
         }
     }
 
@@ -42,11 +42,9 @@ impl Tweak {
         requires { length from.now ≡ 11 }
         ensures answer { Reads tweak_octets from.now result }
     {
-        if let Some(thickness) = read_field::<f64>(from, 0, 0x10, 8) {
-            return Some(Tweak::Thickness(thickness));
-        }
-        let index = read_field::<f64>(from, 0, 0x12, 8)?;
-        Some(Tweak::Index(index))
+        let thickness = read_field::<f64>(from, 0, 0x10, 8);
+        let index = read_field::<f64>(from, 0, 0x12, 8);
+        thickness.map(Tweak::Thickness).or(index.map(Tweak::Index))
     }
 
     fn read_tilt(from: &[u8]) -> Option<Tweak>
@@ -66,55 +64,56 @@ fn same_pattern(a: f64, b: f64) -> bool
     f64_to_bits_with_nan(a) == f64_to_bits_with_nan(b)
 }
 
+// Fills `out` with a tweak of one float.
+fn fill_single(out: &mut [u8], tag: u8, x: f64) -> Result<(), Fault>
+    ensures { Fills (head tag 8 ++ double x) out.old result out.new }
+{
+    if out.len() != SINGLE {
+        return Err(Fault::Mismatched);
+    }
+    put_field(out, 0, tag, 8, x)
+}
+
+// Fills `out` with a tweak of two.
+fn fill_tilt(out: &mut [u8], first: f64, second: f64) -> Result<(), Fault>
+    ensures { Fills (tweak_octets (Tweak.Tilt first second)) out.old result out.new }
+{
+    if out.len() != DOUBLE {
+        return Err(Fault::Mismatched);
+    }
+    put_field(out, 0, 0x11, 16, first)?;
+    second.write_at(out, SINGLE)
+}
+
 impl Bytesable for Tweak {
     ghost bytes = { tweak_octets };
 
     fn length_in_bytes(&self) -> usize {
         match self {
-            Tweak::Thickness(_) => SINGLE,
+            Tweak::Thickness(_) | Tweak::Index(_) => SINGLE,
             Tweak::Tilt(_, _) => DOUBLE,
-            Tweak::Index(_) => SINGLE,
         }
     }
 
     fn into_bytes(&self, out: &mut [u8]) -> Result<(), Fault> {
-        if out.len() != self.length_in_bytes() {
-            return Err(Fault::Mismatched);
-        }
         match *self {
-            Tweak::Thickness(thickness) => put_field(out, 0, 0x10, 8, thickness),
-            Tweak::Tilt(first, second) => {
-                put_field(out, 0, 0x11, 16, first)?;
-                second.write_at(out, SINGLE)
-            }
-            Tweak::Index(index) => put_field(out, 0, 0x12, 8, index),
+            Tweak::Thickness(thickness) => fill_single(out, 0x10, thickness),
+            Tweak::Tilt(first, second) => fill_tilt(out, first, second),
+            Tweak::Index(index) => fill_single(out, 0x12, index),
         }
     }
 
     fn from_bytes(&mut self, from: &[u8]) -> Result<(), Fault> {
-        match Tweak::read(from) {
-            Some(tweak) => {
-                *self = tweak;
-                Ok(())
-            }
-            None => Err(Fault::NoValue),
-        }
+        *self = Tweak::read(from).ok_or(Fault::NoValue)?;
+        Ok(())
     }
 
     fn same(&self, other: &Tweak) -> bool {
-        match *self {
-            Tweak::Thickness(a) => match *other {
-                Tweak::Thickness(b) => same_pattern(a, b),
-                _ => false,
-            },
-            Tweak::Tilt(a, b) => match *other {
-                Tweak::Tilt(c, d) => same_pattern(a, c) && same_pattern(b, d),
-                _ => false,
-            },
-            Tweak::Index(a) => match *other {
-                Tweak::Index(b) => same_pattern(a, b),
-                _ => false,
-            },
+        match (*self, *other) {
+            (Tweak::Thickness(a), Tweak::Thickness(b)) => same_pattern(a, b),
+            (Tweak::Tilt(a, b), Tweak::Tilt(c, d)) => same_pattern(a, c) && same_pattern(b, d),
+            (Tweak::Index(a), Tweak::Index(b)) => same_pattern(a, b),
+            _ => false,
         }
     }
 }

@@ -20,14 +20,14 @@ pub fn write_message<T: Bytesable>(
     if length == 0 {
         return Err(Fault::PayloadLength);
     }
-    if out.len() < MessageHeader::BYTES || out.len() - MessageHeader::BYTES != length {
+    if out.len().checked_sub(MessageHeader::BYTES) != Some(length) {
         return Err(Fault::Mismatched);
     }
     let sized = MessageHeader {
         length: length as u64,
         ..*header
     };
-    sized.write_to(&mut out[0..48])?;
-    element.into_bytes(&mut out[48..48 + length])?;
-    Ok(())
+    let (front, payload) = out.split_at_mut(MessageHeader::BYTES);
+    sized.write_to(front)?;
+    element.into_bytes(payload)
 }

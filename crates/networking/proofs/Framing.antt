@@ -1,6 +1,6 @@
 -- What holds of the octets of a header. Assumes nothing.
-use Rattle.std.proofs.Common.{◌≡◌, ℕ, ◌+◌, ◌<◌, ◌≤◌, Bool, true, false, cond, leb, List, [], ◌++◌, length, get_or, take, Some, None, Option, sym, refl, ap, ◌∙◌, append_assoc, arith, length-append, w8, Fits}
-use Rattle.std.proofs.lemmas.Bool.{le-leb, lt-leb, and_from, and_right}
+use Rattle.std.proofs.Common.{◌≡◌, ℕ, ◌+◌, ◌<◌, ◌≤◌, true, cond, List, [], ◌++◌, length, get_or, take, Some, None, Option, sym, refl, ap, ◌∙◌, append_assoc, arith, length-append, w8, Fits}
+use Rattle.std.proofs.lemmas.Bool.{le-leb, lt-leb, and_from}
 use Rattle.octets.specs.Octets.{octets, part}
 use Rattle.octets.proofs.Parts.{cut, octets_fit, short}
 use Rattle.octets.proofs.Spelling.{value_back}
@@ -62,23 +62,3 @@ absent bs i r fit le none e =
 pub written : (h : MessageHeader) → [] ++ octets 8 h.channel ++ octets 8 h.source ++ octets 8 h.target_lower ++ octets 8 h.target_upper ++ octets 8 h.length ++ octets 8 h.seqno ≡ octets_of h
 unfolding octets_of
 written h = simp append_assoc
-
--- a test that let a value through
-let_through : {X : Type 0} (b : Bool) (x y : X) → cond b (Some x) None ≡ Some y → (b ≡ true) × (x ≡ y)
-let_through true x y e = (refl, cc)
-let_through false x y e = let z : ◌≡◌ {A = ℕ} 0 1 = cc in absurd (omega arith)
-
--- the six numbers are a header exactly if the payload is there
-pub whole : (bs : List ℕ) (h : MessageHeader) → Some h ≡ fields_of bs → 48 + h.length ≤ length bs → Some h ≡ read_of bs
-whole bs h e fits =
-    let t = let_through (leb 48 (length bs)) (header_at bs) h (sym e) in
-    let size : (header_at bs).length ≡ h.length = ap (λ g. g.length) t.1 in
-    let all : is_whole bs ≡ true = and_from _ _ t.0 (le-leb (48 + (header_at bs).length) (length bs) (omega arith)) in
-    sym (ap (λ b. cond b (Some (header_at bs)) None) all ∙ ap Some t.1)
-
-pub not_whole : (bs : List ℕ) (h : MessageHeader) → Some h ≡ fields_of bs → length bs < 48 + h.length → None ≡ read_of bs
-not_whole bs h e few =
-    let t = let_through (leb 48 (length bs)) (header_at bs) h (sym e) in
-    let size : (header_at bs).length ≡ h.length = ap (λ g. g.length) t.1 in
-    let part : is_whole bs ≡ false = and_right (leb 48 (length bs)) _ (lt-leb (48 + (header_at bs).length) (length bs) (omega arith)) in
-    sym (ap (λ b. cond b (Some (header_at bs)) None) part)

@@ -7,7 +7,7 @@ use answers::Fault;
 use octets::Number;
 
 // Which typed channel a payload is for, the workers that it comes from and goes to, and how many bytes it has.
-#[derive(Clone, Copy, Debug, PartialEq)]
+#[derive(Clone, Copy, Debug, Default, PartialEq, Eq, Hash)]
 pub struct MessageHeader {
     // Index of the channel.
     pub channel: u64,
@@ -47,12 +47,7 @@ impl MessageHeader {
         ensures answer { result ≡ read_of bytes.now }
         ensures again { Stands result bytes.now }
     {
-        let header = MessageHeader::read(bytes)?;
-        if bytes.len() as u128 >= header.required_bytes() {
-            Some(header)
-        } else {
-            None
-        }
+        MessageHeader::read(bytes).filter(|header| bytes.len() as u128 >= header.required_bytes())
     }
 
     // Fills `out` with the header.

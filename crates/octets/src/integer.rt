@@ -3,24 +3,21 @@ ghost use Rattle.std.specs.Int.{w64};
 ghost use Rattle.std.proofs.Common.{of_z};
 ghost use Rattle.octets.specs.Octets.{RoundTrip};
 
-use crate::number::{Number, put, reaches};
+use crate::number::{Number, octets_at, put};
 use answers::Fault;
 
+// This impl and the next only name their type's own methods: `ToBytes` of num_traits has no law that says which octets it gives.
 impl Number for u32 {
     ghost width = { 4 };
 
     ghost pattern = { λ x. x };
 
     fn write_at(self, out: &mut [u8], at: usize) -> Result<(), Fault> {
-        let octets: [u8; 4] = self.to_be_bytes();
-        put(out, at, &octets)
+        put(out, at, &u32::to_be_bytes(self))
     }
 
     fn read_at(bytes: &[u8], at: usize) -> Option<u32> {
-        if !reaches(bytes, at, 4) {
-            return None;
-        }
-        let octets = <[u8; 4]>::try_from(&bytes[at..at + 4]).unwrap();
+        let octets = octets_at(bytes, at)?;
         Some(u32::from_be_bytes(octets))
     }
 }
@@ -31,15 +28,11 @@ impl Number for u64 {
     ghost pattern = { λ x. x };
 
     fn write_at(self, out: &mut [u8], at: usize) -> Result<(), Fault> {
-        let octets: [u8; 8] = self.to_be_bytes();
-        put(out, at, &octets)
+        put(out, at, &u64::to_be_bytes(self))
     }
 
     fn read_at(bytes: &[u8], at: usize) -> Option<u64> {
-        if !reaches(bytes, at, 8) {
-            return None;
-        }
-        let octets = <[u8; 8]>::try_from(&bytes[at..at + 8]).unwrap();
+        let octets = octets_at(bytes, at)?;
         Some(u64::from_be_bytes(octets))
     }
 }

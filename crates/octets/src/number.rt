@@ -1,10 +1,11 @@
 // What a number of a fixed width is as octets.
-ghost use Rattle.std.specs.Prelude.{ℕ, ◌+◌, ◌≤◌, length, Decides};
+ghost use Rattle.std.specs.Prelude.{◌≡◌, ℕ, ◌+◌, ◌<◌, ◌≤◌, length, MatchOption};
 ghost use Rattle.octets.specs.Octets.{octets, part, Lays, Reads};
 
 use answers::Fault;
 
-// A number that is written as octets, high octet first.
+// A number that is written as octets, high octet first. A part and a place in it go side by side, with no cursor around them: a
+// format is a table of places, and each call reads as a row of it.
 pub trait Number: Sized {
     // How many octets it has.
     ghost width: { ℕ };
@@ -21,18 +22,18 @@ pub trait Number: Sized {
         ensures answer { Reads (λ x. octets width (pattern x)) (part at width bytes.now) result };
 }
 
-// Whether `bytes` has `count` octets from `at` on.
-pub(crate) fn reaches(bytes: &[u8], at: usize, count: usize) -> bool
-    ensures { Decides result (at + count ≤ length bytes.now) }
+// The `N` octets of `bytes` from `at` on, where they are there.
+pub(crate) fn octets_at<const N: usize>(bytes: &[u8], at: usize) -> Option<[u8; N]>
+    ensures { MatchOption result (length bytes.now < at + N) (λ os. (at + N ≤ length bytes.now) × (os ≡ part at N bytes.now)) }
 {
-    at <= bytes.len() && count <= bytes.len() - at
+    bytes.get(at..)?.first_chunk::<N>().copied()
 }
 
 // Writes `part` over `out` from `at` on.
 pub fn put(out: &mut [u8], at: usize, part: &[u8]) -> Result<(), Fault>
     ensures after { Lays part.now at out.old result out.new }
 {
-    if !reaches(out, at, part.len()) {
+    if at > out.len() || part.len() > out.len() - at {
         return Err(Fault::Mismatched);
     }
     out[at..at + part.len()].copy_from_slice(part);

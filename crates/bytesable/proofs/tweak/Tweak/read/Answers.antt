@@ -1,5 +1,6 @@
+use Rattle.std.proofs.Common.{arith, rules}
 use Rattle.bytesable.proofs.TweakLaws.{no_length}
 use Rattle.bytesable.proofs.tweak.Tweak.read.Goals as goal
 
-pub returns-else-from-eq-DOUBLE : goal.returns-else-from-eq-DOUBLE
-returns-else-from-eq-DOUBLE c = record { answer = no_length c.args.from.now c.if-from-eq-SINGLE.false c.if-from-eq-DOUBLE.false }
+pub returns-in_default : goal.returns-in_default
+returns-in_default c = record { answer = no_length c.args.from.now (λ e. grind (arith, rules)) (λ e. search rules) }

@@ -1,11 +1,13 @@
-use Rattle.bytesable.proofs.TweakLaws.{reads_thickness, reads_index, no_single}
+use Rattle.std.proofs.Common.{◌≡◌, rules}
+use Rattle.std.specs.Option.{option_map}
+use Rattle.bytesable.specs.declared.tweak.Tweak.TheVariants.{Thickness, Index}
+use Rattle.bytesable.proofs.TweakLaws.{single_or}
 use Rattle.bytesable.proofs.tweak.Tweak.read_single.Goals as goal
 
-pub returns-in-Some : goal.returns-in-Some
-returns-in-Some c = record { answer = reads_thickness c.args.from.now c.in-Some.thickness c.requires c.in-Some.ensures.answer }
-
-pub returns-in_err-index : goal.returns-in_err-index
-returns-in_err-index c = record { answer = rw c.from_residual.ensures (no_single c.args.from.now c.requires c.in_default.ensures.answer c.in_err-index.ensures.answer) }
-
 pub returns : goal.returns
-returns c = record { answer = reads_index c.args.from.now c.in_ok-index.index c.requires c.in_ok-index.ensures.answer }
+returns c =
+    let r = c.read_field-thickness.result in
+    let s = c.read_field-index.result in
+    let t : c.map.result ≡ option_map Thickness r = search rules in
+    let u : c.map-2.result ≡ option_map Index s = search rules in
+    record { answer = single_or c.args.from.now r s c.or.result c.requires c.read_field-thickness.ensures.answer c.read_field-index.ensures.answer (rw (c.or.ensures, t, u)) }
