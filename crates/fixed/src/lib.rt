@@ -7,7 +7,10 @@ mod table;
 
 use std::alloc::AllocError;
 
-// At most N values, front first, in an array.
+// At most N values, front first. An array with a length beside it, since nothing here allocates, and the kit's ArrayVec is
+// not Copy, as a table that holds queues by value needs them. No Model: Copy asks one for the fields back, and a list of
+// the values does not say what stands in the unused places.
+#[derive(Copy)]
 pub struct Fixed<T: Copy, const N: usize> {
     items: [T; N],
     len: usize,
@@ -15,6 +18,7 @@ pub struct Fixed<T: Copy, const N: usize> {
     ghost fits: { len ≤ N },
 }
 
+// By hand, since no Clone is derived over a ghost field in a generic type.
 impl<T: Copy, const N: usize> Clone for Fixed<T, N> {
     ghost is_clone = { λ x y. y ≡ x };
 
@@ -24,5 +28,3 @@ impl<T: Copy, const N: usize> Clone for Fixed<T, N> {
         Ok(*self)
     }
 }
-
-impl<T: Copy, const N: usize> Copy for Fixed<T, N> {}

@@ -1,4 +1,4 @@
-ghost use Rattle.std.specs.Prelude.{◌≡◌, ◌-◌, min, [], length, replicate, slice_set};
+ghost use Rattle.std.specs.Prelude.{◌≡◌, ◌↔◌, ◌==◌, ◌-◌, ◌<◌, min, [], length, replicate, slice_set, IsNone, IfSome};
 ghost use Rattle.std.specs.List.{slice_get, remove};
 ghost use Rattle.fixed.specs.Held.{held, Pushes};
 
@@ -25,38 +25,61 @@ impl<T: Copy, const N: usize> Fixed<T, N> {
         }
     }
 
+    // One that holds these values; none where they are more than N. `blank` stands in the places that are not used.
+    pub fn from_slice(blank: T, values: &[T]) -> Option<Self>
+        ensures too_many { IsNone result ↔ (N < length values.now) }
+        ensures answer { IfSome result (λ f. held f ≡ values.now) }
+    {
+        if values.len() > N {
+            return None;
+        }
+        let mut items = [blank; N];
+        items[..values.len()].copy_from_slice(values);
+        Some(Fixed {
+            items,
+            len: values.len(),
+        })
+    }
+
+    // The values, front first.
+    pub fn as_slice(&self) -> &[T]
+        ensures answer { result.now ≡ held self.now }
+    {
+        &self.items[..self.len]
+    }
+
     pub fn len(&self) -> usize
         ensures answer { result ≡ length (held self.now) }
     {
         self.len
     }
 
+    pub fn is_empty(&self) -> bool
+        ensures answer { result ≡ (length (held self.now) == 0) }
+    {
+        self.len == 0
+    }
+
     pub fn get(&self, i: usize) -> Option<T>
         ensures answer { result ≡ slice_get (held self.now) i }
     {
-        if i < self.len {
-            Some(self.items[i])
-        } else {
-            None
-        }
+        self.as_slice().get(i).copied()
     }
 
     // The value behind all others.
     pub fn back(&self) -> Option<T>
         ensures answer { result ≡ slice_get (held self.now) (length (held self.now) - 1) }
     {
-        self.get(self.len.saturating_sub(1))
+        self.as_slice().last().copied()
     }
 
     // Another value at `i`, where there is one; answers the one that stood there.
+    #[tactic(auto, using(crate::proofs::Places::inside))]
     pub fn replace(&mut self, i: usize, value: T) -> Option<T>
         ensures answer { result ≡ slice_get (held self.old) i }
         ensures after { held self.new ≡ slice_set (held self.old) i value }
     {
-        if i >= self.len {
-            return None;
-        }
-        let old = self.items[i];
+        let old = self.get(i)?;
         self.items[i] = value;
         Some(old)
     }
@@ -65,30 +88,23 @@ impl<T: Copy, const N: usize> Fixed<T, N> {
     pub fn push_back(&mut self, value: T) -> Result<(), T>
         ensures after { Pushes N value (held self.old) result (held self.new) }
     {
-        let n = self.len;
-        if n >= N {
+        if self.len == N {
             return Err(value);
         }
-        self.items[n] = value;
-        self.len = n + 1;
+        self.items[self.len] = value;
+        self.len += 1;
         Ok(())
     }
 
     // Takes the value at `i` out, and those behind it move up.
+    #[tactic(auto, using(crate::proofs::Places::inside))]
     pub fn remove(&mut self, i: usize) -> Option<T>
         ensures answer { result ≡ slice_get (held self.old) i }
         ensures after { held self.new ≡ remove (held self.old) i }
     {
-        let n = self.len;
-        if i >= n {
-            return None;
-        }
-        let old = self.items[i];
-        for j in i..n - 1 {
-            let next = self.items[j + 1];
-            self.items[j] = next;
-        }
-        self.len = n - 1;
+        let old = self.get(i)?;
+        self.items.copy_within(i + 1..self.len, i);
+        self.len -= 1;
         Some(old)
     }
 

@@ -1,9 +1,6 @@
 use Rattle.std.proofs.Common.{min, take, replicate, ap, ◌∙◌, arith}
-use Rattle.std.proofs.lemmas.List.{length-replicate, take-replicate}
+use Rattle.std.proofs.lemmas.List.{take-replicate}
 use Rattle.fixed.proofs.Fixed.filled.Goals as goal
-
-pub invariant_of-result : goal.invariant_of-result
-invariant_of-result g c = record { full = length-replicate _ _; fits = omega arith }
 
 pub returns : goal.returns
 returns g c =
