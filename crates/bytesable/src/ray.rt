@@ -4,7 +4,7 @@ ghost use Rattle.octets.specs.Octets.{Reads};
 ghost use Rattle.bytesable.specs.Rays.{ray_octets};
 
 use crate::element::Bytesable;
-use crate::field::{put_field, read_field};
+use crate::field::Field;
 use answers::Fault;
 
 #[derive(Clone, Copy, Debug, Default, PartialEq, Eq, Hash)]
@@ -17,6 +17,24 @@ pub struct Ray {
     pub path: i64,
 }
 
+const SURFACE: Field = Field {
+    at: 0,
+    tag: 0x01,
+    size: 4,
+};
+
+const HEIGHT: Field = Field {
+    at: 7,
+    tag: 0x02,
+    size: 8,
+};
+
+const PATH: Field = Field {
+    at: 18,
+    tag: 0x03,
+    size: 8,
+};
+
 impl Ray {
     pub const BYTES: usize = 29;
 
@@ -27,9 +45,9 @@ impl Ray {
         if from.len() != Ray::BYTES {
             return None;
         }
-        let surface = read_field::<u32>(from, 0, 0x01, 4)?;
-        let height = read_field::<i64>(from, 7, 0x02, 8)?;
-        let path = read_field::<i64>(from, 18, 0x03, 8)?;
+        let surface = SURFACE.read::<u32>(from)?;
+        let height = HEIGHT.read::<i64>(from)?;
+        let path = PATH.read::<i64>(from)?;
         Some(Ray {
             surface,
             height,
@@ -56,9 +74,9 @@ impl Bytesable for Ray {
         if out.len() != Ray::BYTES {
             return Err(Fault::Mismatched);
         }
-        put_field(out, 0, 0x01, 4, self.surface)?;
-        put_field(out, 7, 0x02, 8, self.height)?;
-        put_field(out, 18, 0x03, 8, self.path)?;
+        SURFACE.put(out, self.surface)?;
+        HEIGHT.put(out, self.height)?;
+        PATH.put(out, self.path)?;
         Ok(())
     }
 

@@ -6,7 +6,7 @@ ghost use Rattle.bytesable.specs.Fields.{head};
 ghost use Rattle.bytesable.specs.Tweaks.{double, tweak_octets};
 
 use crate::element::Bytesable;
-use crate::field::{put_field, read_field};
+use crate::field::Field;
 use answers::Fault;
 use octets::Number;
 use std::num::f64_to_bits_with_nan;
@@ -20,6 +20,24 @@ pub enum Tweak {
     // A refractive index.
     Index(f64),
 }
+
+const THICKNESS: Field = Field {
+    at: 0,
+    tag: 0x10,
+    size: 8,
+};
+
+const TILT: Field = Field {
+    at: 0,
+    tag: 0x11,
+    size: 16,
+};
+
+const INDEX: Field = Field {
+    at: 0,
+    tag: 0x12,
+    size: 8,
+};
 
 // The octets of a tweak of one float, and of two.
 const SINGLE: usize = 11;
@@ -42,8 +60,8 @@ impl Tweak {
         requires { length from.now ≡ 11 }
         ensures answer { Reads tweak_octets from.now result }
     {
-        let thickness = read_field::<f64>(from, 0, 0x10, 8);
-        let index = read_field::<f64>(from, 0, 0x12, 8);
+        let thickness = THICKNESS.read::<f64>(from);
+        let index = INDEX.read::<f64>(from);
         thickness.map(Tweak::Thickness).or(index.map(Tweak::Index))
     }
 
@@ -51,7 +69,7 @@ impl Tweak {
         requires { length from.now ≡ 19 }
         ensures answer { Reads tweak_octets from.now result }
     {
-        let first = read_field::<f64>(from, 0, 0x11, 16)?;
+        let first = TILT.read::<f64>(from)?;
         let second = f64::read_at(from, SINGLE)?;
         Some(Tweak::Tilt(first, second))
     }
@@ -65,13 +83,14 @@ fn same_pattern(a: f64, b: f64) -> bool
 }
 
 // Fills `out` with a tweak of one float.
-fn fill_single(out: &mut [u8], tag: u8, x: f64) -> Result<(), Fault>
-    ensures { Fills (head tag 8 ++ double x) out.old result out.new }
+fn fill_single(out: &mut [u8], field: Field, x: f64) -> Result<(), Fault>
+    requires { field.at ≡ 0 }
+    ensures { Fills (head field.tag field.size ++ double x) out.old result out.new }
 {
     if out.len() != SINGLE {
         return Err(Fault::Mismatched);
     }
-    put_field(out, 0, tag, 8, x)
+    field.put(out, x)
 }
 
 // Fills `out` with a tweak of two.
@@ -81,7 +100,7 @@ fn fill_tilt(out: &mut [u8], first: f64, second: f64) -> Result<(), Fault>
     if out.len() != DOUBLE {
         return Err(Fault::Mismatched);
     }
-    put_field(out, 0, 0x11, 16, first)?;
+    TILT.put(out, first)?;
     second.write_at(out, SINGLE)
 }
 
@@ -97,9 +116,9 @@ impl Bytesable for Tweak {
 
     fn into_bytes(&self, out: &mut [u8]) -> Result<(), Fault> {
         match *self {
-            Tweak::Thickness(thickness) => fill_single(out, 0x10, thickness),
+            Tweak::Thickness(thickness) => fill_single(out, THICKNESS, thickness),
             Tweak::Tilt(first, second) => fill_tilt(out, first, second),
-            Tweak::Index(index) => fill_single(out, 0x12, index),
+            Tweak::Index(index) => fill_single(out, INDEX, index),
         }
     }
 

@@ -1,4 +1,5 @@
-use Rattle.std.proofs.Common.{◌++◌, refl, sym, ◌∙◌, arith}
+use Rattle.std.proofs.Common.{◌++◌, length, refl, sym, ap, ◌∙◌, arith}
+use Rattle.std.proofs.Math.Seq.{paste}
 use Rattle.octets.proofs.Laying.{fills_ok}
 use Rattle.octets.proofs.Pasting.{begin, more, done}
 use Rattle.bytesable.specs.Fields.{head}
@@ -7,10 +8,12 @@ use Rattle.bytesable.proofs.Fielding.{length-field}
 use Rattle.bytesable.proofs.tweak.fill_single.Goals as goal
 
 pub returns-then-out-ne-SINGLE : goal.returns-then-out-ne-SINGLE
-returns-then-out-ne-SINGLE c = (λ e. c.if-out-ne-SINGLE.true (e ∙ length-field 8 c.args.tag 8 _), refl, refl)
+returns-then-out-ne-SINGLE c = (λ e. c.if-out-ne-SINGLE.true (e ∙ length-field 8 c.args.field.tag c.args.field.size _), refl, refl)
 
 pub returns : goal.returns
 returns c =
-    let long = length-field 8 c.args.tag 8 _ in
-    let b = more 11 {s = head c.args.tag 8 ++ double c.args.x} (begin 11 c.args.out.now c.if-out-ne-SINGLE.false) c.put_field.ensures.after refl long (omega arith) in
-    fills_ok _ c.args.out.now c.put_field.result c.put_field.new.out c.put_field.ensures.granted (c.if-out-ne-SINGLE.false ∙ sym long) (done b)
+    let os = head c.args.field.tag c.args.field.size ++ double c.args.x in
+    let long = length-field 8 c.args.field.tag c.args.field.size _ in
+    let written = c.put.ensures.after ∙ ap (λ i. paste c.args.out.now i os (length os)) c.requires in
+    let b = more 11 {s = os} (begin 11 c.args.out.now c.if-out-ne-SINGLE.false) written refl long (omega arith) in
+    fills_ok _ c.args.out.now c.put.result c.put.new.out c.put.ensures.granted (c.if-out-ne-SINGLE.false ∙ sym long) (done b)
