@@ -36,11 +36,11 @@ pub enum Fault {
     NoSuchIndex,
     #[error("the payload is no value of the type wanted")]
     NoValue,
-    #[error("the stream ended behind byte {0} with no closing header")]
+    #[error("the stream ended after {0} bytes taken whole, with no closing header")]
     Torn(u64),
-    #[error("a byte follows the closing header, behind byte {0}")]
+    #[error("after {0} bytes taken whole, a byte follows the closing header")]
     BehindClosing(u64),
-    #[error("behind byte {0} stands a header with an overlong length or a bad range")]
+    #[error("after {0} bytes taken whole stands a header with an overlong length or a bad range")]
     BadHeader(u64),
     #[error("the store has too few units for an allowed chunk")]
     NoUnits,

@@ -126,3 +126,15 @@ fn a_message_is_as_long_as_its_parts(rt: HostRuntime) {
     assert_eq!(rt; bytes[76], 77);
     assert_eq!(rt; bytes[77], 7);
 }
+
+#[test]
+fn a_refusal_prints_itself(rt: HostRuntime) -> Result<(), Fail> {
+    let full = format!(in rt.alloc(); "{}", Fault::QueueFull)?;
+    assert_eq!(rt; full.as_str(), "the queue of the source is full");
+    let torn = format!(in rt.alloc(); "{}", Fault::Torn(77))?;
+    assert_eq!(rt;
+        torn.as_str(),
+        "the stream ended after 77 bytes taken whole, with no closing header"
+    );
+    Ok(())
+}
