@@ -143,6 +143,10 @@ apart_index x (Index y) other = absurd (other y refl)
 pub decides_as : (r : Bool) {s u t v : Tweak} → s ≡ u → t ≡ v → Decides r (tweak_octets u ≡ tweak_octets v) → Decides r (tweak_octets s ≡ tweak_octets t)
 decides_as r e f d = Decides-like r (λ h. ap tweak_octets e ∙ h ∙ ap tweak_octets (sym f)) (λ h. ap tweak_octets (sym e) ∙ h ∙ ap tweak_octets f) d
 
+-- a part that is filled with octets is filled with all that they are
+pub fills_as : {V : Type 0} {os ps : List ℕ} (before : List ℕ) (r : Result V Fault) (after : List ℕ) → os ≡ ps → Fills os before r after → Fills ps before r after
+fills_as {V} before r after e h = subst (λ (xs : List ℕ). Fills {V = V} xs before r after) e h
+
 pub size_most : (t : Tweak) → size_of t ≤ 19
 size_most (Thickness x) = omega arith
 size_most (Tilt x y) = omega arith
