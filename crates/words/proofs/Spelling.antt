@@ -1,5 +1,5 @@
 -- Numbers spelled in digits, and read back. Assumes nothing.
-use Rattle.std.proofs.Common.{◌≡◌, ℕ, zero, suc, ◌+◌, ◌-◌, ◌*◌, ◌/◌, ◌%◌, ◌^◌, ◌<◌, ◌≤◌, Bool, true, false, cond, eqb, List, [], ◌∷◌, ◌++◌, length, get_or, replicate, Some, Ok, Err, Result, sym, refl, ap, ◌∙◌, ⊎_elim, append_assoc, append-nil, add_assoc, mod-eq_of_lt, mul_assoc, add-mul, pow-suc, zero-add, zero-mul, arith, w8, Fits}
+use Rattle.std.proofs.Common.{◌≡◌, ℕ, zero, suc, ◌+◌, ◌-◌, ◌*◌, ◌/◌, ◌%◌, ◌^◌, ◌<◌, ◌≤◌, Bool, true, false, cond, eqb, List, [], ◌∷◌, ◌++◌, length, get_or, replicate, Some, sym, refl, ap, ◌∙◌, ⊎_elim, append_assoc, append-nil, add_assoc, mod-eq_of_lt, mul_assoc, add-mul, pow-suc, zero-add, zero-mul, arith, w8, Fits}
 use Rattle.std.proofs.Math.Nat.{div-div-eq-div-mul, zero-div}
 use Rattle.std.proofs.lemmas.Fmt.{hex_byte}
 use Rattle.std.specs.Fmt.{digit_glyph, digits, digits_onto, format_spec, padded_integral, char_count, digits_output, styled_digits_output}
@@ -7,10 +7,7 @@ use native.Mathlib.Nat.{pow-succ'}
 use lib.Arith.{mod-mul}
 use Rattle.std.proofs.lemmas.Bool.{cases_eq, cases_lt, cond-true, eq-eqb, eqb-true, eqb-false, le-ltb, lt-ltb}
 use Rattle.std.specs.List.{flat_map, AllByRecursion as All}
-use Rattle.std.specs.Bool.{if◌then◌else◌}
 use Rattle.std.specs.Option.{option_map}
-use Rattle.std.specs.Result.{is_ok}
-use Rattle.words.specs.Appending.{Appends}
 use Rattle.words.specs.Hexadecimals.{char_of, in_front, number_of, numeral, pairs_of, bytes_of, spelled, pattern_of, pattern_spelled}
 use Rattle.words.proofs.Digits.{digit_back, read_on, read_digit}
 
@@ -122,8 +119,3 @@ pattern_shown n small =
     let p = padded_onto 16 64 n [] (omega arith) (omega arith) (omega arith) in
     let zeros : 16 - length (digits 16 false n) - 0 - 0 ≡ p.0 = omega (arith, p.1) in
     ap (λ z. replicate z 48 ++ (digits 16 false n ++ [])) zeros ∙ ap (λ xs. replicate p.0 48 ++ xs) (append-nil (digits 16 false n)) ∙ p.2 ∙ append-nil (numeral 16 n)
-
--- what is appended as a whole or not at all
-pub appended : {T E : Type 0} (xs text before : List ℕ) (r : Result T E) (after : List ℕ) → text ≡ xs → after ≡ (if is_ok r then before ++ text else before) → Appends xs before r after
-appended xs text before (Ok done) after e h = h ∙ ap (λ t. before ++ t) e
-appended xs text before (Err refused) after e h = ([], xs, refl, h ∙ sym (append-nil before))

@@ -1,5 +1,5 @@
 // Bytes and patterns in lowercase hexadecimal digits.
-ghost use Rattle.std.specs.Prelude.{◌≡◌, ◌↔◌, IsTrue, IfOk, Some, vec_items, string_bytes};
+ghost use Rattle.std.specs.Prelude.{◌≡◌, ◌↔◌, IsTrue, IfOk, IfSome, Some, vec_items, string_bytes};
 ghost use Rattle.std.specs.List.{AllPass};
 ghost use Rattle.std.specs.Option.{option_map};
 ghost use Rattle.words.specs.Appending.{Appends};
@@ -64,15 +64,27 @@ pub fn bytes(heap: Global, word: &str) -> Result<Option<Vec<u8>>, AllocError>
     }
 }
 
+// How many digits a pattern has.
+const PATTERN_DIGITS: usize = 16;
+
 // The number of a word of exactly sixteen digits.
 pub fn pattern(word: &str) -> Option<u64>
     ensures { result ≡ pattern_of word.now }
 {
     // `from_str_radix` would take a plus and uppercase digits.
-    if word.len() != 16 || !are_digits(word) {
+    if word.len() != PATTERN_DIGITS || !are_digits(word) {
         return None;
     }
     u64::from_str_radix(word, 16).ok()
+}
+
+// Appends what a value prints.
+fn push<D: fmt::Display + Drop>(out: &mut String, value: D) -> Result<(), AllocError>
+    ensures { IfSome (D.output value) (λ bs. Appends bs (string_bytes out.old) result (string_bytes out.new)) }
+{
+    // `write!` to `out` would promise nothing of it where memory fails, so the text is made first.
+    let text = value.to_string(*out.allocator())?;
+    out.push_str(text.as_str())
 }
 
 // Appends bytes as pairs of digits, or `-` for none. What is appended, `bytes` reads back.
@@ -80,9 +92,7 @@ pub fn push_bytes(out: &mut String, bytes: &[u8]) -> Result<(), AllocError>
     ensures after { Appends (spelled bytes.now) (string_bytes out.old) result (string_bytes out.new) }
     ensures read_back { bytes_of (spelled bytes.now) ≡ Some bytes.now }
 {
-    // `write!` to `out` would promise nothing of it where memory fails, so the word is made first.
-    let word = HexBytes(bytes).to_string(*out.allocator())?;
-    out.push_str(word.as_str())
+    push(out, HexBytes(bytes))
 }
 
 // Appends sixteen digits. What is appended, `pattern` reads back.
@@ -90,6 +100,5 @@ pub fn push_pattern(out: &mut String, pattern: u64) -> Result<(), AllocError>
     ensures after { Appends (pattern_spelled pattern) (string_bytes out.old) result (string_bytes out.new) }
     ensures read_back { pattern_of (pattern_spelled pattern) ≡ Some pattern }
 {
-    let word = HexPattern(pattern).to_string(*out.allocator())?;
-    out.push_str(word.as_str())
+    push(out, HexPattern(pattern))
 }

@@ -1,8 +1,5 @@
 use Rattle.words.proofs.Spelling.{pattern_back}
 use Rattle.words.proofs.hexadecimal.push_pattern.Goals as goal
 
-pub returns-in_err-word-clause-read_back : goal.returns-in_err-word-clause-read_back
-returns-in_err-word-clause-read_back c = pattern_back c.args.pattern c.ranges.pattern.fits
-
 pub returns-clause-read_back : goal.returns-clause-read_back
 returns-clause-read_back c = pattern_back c.args.pattern c.ranges.pattern.fits
