@@ -5,7 +5,7 @@ ghost use Rattle.script.specs.Shown.{element_shown, shown_of};
 
 use crate::answer::Answer;
 use crate::element::Element;
-use bytesable::{Ray, Tweak};
+use bytesable::Tweak;
 use networking::MessageHeader;
 use std::alloc::{AllocError, Global};
 use std::fmt;
@@ -29,33 +29,24 @@ impl fmt::Display for Answer {
             Answer::Nothing => Ok(()),
             Answer::Unreadable(None) => write!(f, "unreadable"),
             Answer::Unreadable(Some(verb)) => write!(f, "{verb} unreadable"),
-            Answer::Message(octets) => {
-                let octets = HexBytes(octets.as_slice());
-                write!(f, "message {octets}")
-            }
+            Answer::Message(octets) => write!(f, "message {}", HexBytes(octets.as_slice())),
             Answer::Header(None) => write!(f, "read absent"),
-            Answer::Header(
-                Some(
-                    MessageHeader {
-                        channel,
-                        source,
-                        target_lower,
-                        target_upper,
-                        length,
-                        seqno,
-                    },
-                ),
-            ) => {
+            Answer::Header(Some(header)) => {
+                let MessageHeader {
+                    channel,
+                    source,
+                    target_lower,
+                    target_upper,
+                    length,
+                    seqno,
+                } = header;
                 write!(
                     f,
                     "read {channel} {source} {target_lower} {target_upper} {length} {seqno}"
                 )
             }
             Answer::Element(element) => write!(f, "element {element}"),
-            Answer::Refused(verb, fault) => {
-                let number = fault.number();
-                write!(f, "{verb} refused {number}")
-            }
+            Answer::Refused(verb, fault) => write!(f, "{verb} refused {}", fault.number()),
         }
     }
 }
@@ -64,31 +55,12 @@ impl fmt::Display for Element {
     ghost output = { λ e. Some (element_shown e) };
 
     fn fmt<W: fmt::Write>(&self, f: &mut fmt::Formatter<W>) -> fmt::Result {
-        match *self {
-            Element::Ray(
-                Ray {
-                    surface,
-                    height,
-                    path,
-                },
-            ) => write!(f, "ray {surface} {height} {path}"),
-            Element::Tweak(Tweak::Thickness(thickness)) => {
-                let thickness = pattern(thickness);
-                write!(f, "thickness {thickness}")
-            }
-            Element::Tweak(Tweak::Tilt(first, second)) => {
-                let first = pattern(first);
-                let second = pattern(second);
-                write!(f, "tilt {first} {second}")
-            }
-            Element::Tweak(Tweak::Index(index)) => {
-                let index = pattern(index);
-                write!(f, "index {index}")
-            }
-            Element::Block(block) => {
-                let octets = HexBytes(block.as_bytes());
-                write!(f, "block {octets}")
-            }
+        match self {
+            Element::Ray(ray) => write!(f, "ray {} {} {}", ray.surface, ray.height, ray.path),
+            Element::Tweak(Tweak::Thickness(x)) => write!(f, "thickness {}", pattern(*x)),
+            Element::Tweak(Tweak::Tilt(x, y)) => write!(f, "tilt {} {}", pattern(*x), pattern(*y)),
+            Element::Tweak(Tweak::Index(x)) => write!(f, "index {}", pattern(*x)),
+            Element::Block(block) => write!(f, "block {}", HexBytes(block.as_bytes())),
         }
     }
 }
