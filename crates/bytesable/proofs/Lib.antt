@@ -1,4 +1,3 @@
 pub mod Fielding
 pub mod RayLaws
 pub mod TweakLaws
-pub mod BlockLaws

@@ -46,14 +46,13 @@ fn run(rt: &HostRuntime) -> anyhow::Result<()> {
     };
     for line in BufReader::new(heap, rt.stdin())?.split(heap, b'\n') {
         if tally.take(heap, line?.as_slice())? {
-            let played = tally.played;
-            let given = tally.given.as_str();
-            println!(rt; "answer {played} is {given}")?;
+            println!(rt; "answer {} is {}", tally.played, tally.given.as_str())?;
         }
     }
-    let played = tally.played;
-    let differ = tally.differ;
-    println!(rt; "{played} lines played, {differ} answered otherwise")?;
+    println!(rt;
+        "{} lines played, {} answered otherwise",
+        tally.played, tally.differ
+    )?;
     Ok(())
 }
 

@@ -1,5 +1,5 @@
 -- What is answered to a line of a script, by its words. Assumes nothing.
-use Rattle.std.specs.Prelude.{◌≡◌, ℕ, ◌<◌, ◌≤◌, cond, List, [], ◌∷◌, length, Some, None, vec_items, MatchBool, MatchOption, ◌==◌, ◌≢◌, slice_index}
+use Rattle.std.specs.Prelude.{◌≡◌, ℕ, ◌<◌, ◌≤◌, cond, List, [], ◌∷◌, length, Some, None, Ok, Err, Option, Result, vec_items, MatchBool, MatchOption, ◌==◌, ◌≢◌, slice_index}
 use Rattle.answers.specs.Faults.{number_of}
 use Rattle.networking.specs.Headers.{read_of}
 use Rattle.networking.specs.declared.header.MessageHeader.{MessageHeader}
@@ -12,6 +12,8 @@ use Rattle.script.specs.declared.element.Element.{Element}
 use Rattle.script.specs.declared.element.Element.TheVariants as element
 use Rattle.script.specs.declared.element.Kind.{Kind}
 use Rattle.script.specs.declared.element.Kind.TheVariants as kind
+use Rattle.script.specs.declared.stop.Stop.{Stop}
+use Rattle.script.specs.declared.stop.Stop.TheVariants as stop
 use Rattle.script.specs.declared.verb.Verb.{Verb}
 use Rattle.script.specs.declared.verb.Verb.TheVariants as verb
 
@@ -54,6 +56,13 @@ abbrev pub PlaysVerb : Verb → List (List ℕ) → Answer → Type 0
 PlaysVerb verb.Message ws a = PlaysMessage ws a
 PlaysVerb verb.Read ws a = PlaysRead ws a
 PlaysVerb verb.Element ws a = PlaysElement ws a
+
+-- the answer to a line of a verb, also where it was stopped; there is none where memory failed
+abbrev pub answer_to : Verb → Result Answer Stop → Option Answer
+answer_to v (Ok a) = Some a
+answer_to v (Err stop.Unreadable) = Some (answer.Unreadable (Some v))
+answer_to v (Err (stop.Refused f)) = Some (answer.Refused v f)
+answer_to v (Err (stop.OutOfMemory e)) = None
 
 -- a line of no word, or whose first begins with #, is passed over
 abbrev pub Plays : List (List ℕ) → Answer → Type 0

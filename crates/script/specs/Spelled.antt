@@ -1,9 +1,8 @@
 -- What the words of a message line spell. Assumes nothing.
-use Rattle.std.specs.Prelude.{◌≡◌, ℕ, ◌-◌, ◌^◌, ◌<◌, List, [], ◌∷◌, length, Some, None, Ok, Err, Option, Result, from_bits, Float}
+use Rattle.std.specs.Prelude.{◌≡◌, ℕ, ◌-◌, ◌^◌, ◌<◌, List, [], ◌∷◌, length, Some, None, Ok, Err, Option, Result, IsSomeAnd, ⊤, from_bits, Float}
 use Rattle.std.specs.Float.{binary64}
 use Rattle.std.specs.Option.{option_map}
 use Rattle.answers.specs.Faults.{number_of as fault_number}
-use Rattle.answers.specs.declared.Fault.{Fault}
 use Rattle.networking.specs.declared.header.MessageHeader.{MessageHeader}
 use Rattle.words.specs.Decimals.{unsigned_of, signed_of}
 use Rattle.words.specs.Hexadecimals.{bytes_of, pattern_of}
@@ -16,6 +15,8 @@ use Rattle.script.specs.declared.element.Form.{Form}
 use Rattle.script.specs.declared.element.Form.TheVariants as form
 use Rattle.script.specs.declared.element.Element.{Element}
 use Rattle.script.specs.declared.element.Element.TheVariants as element
+use Rattle.script.specs.declared.stop.Stop.{Stop}
+use Rattle.script.specs.declared.stop.Stop.TheVariants as stop
 
 -- the octets that an element means
 abbrev pub element_octets : Element → List ℕ
@@ -82,9 +83,16 @@ abbrev pub spelled_of : List (List ℕ) → Option (List ℕ)
 spelled_of [] = None
 spelled_of (k ∷ ws) = given (form_of k) (λ f. spelled_as f ws)
 
--- What is answered for the octets that words spell: the element that means them. Only a block can have too many, which 14 refuses.
-abbrev pub Means : Option (List ℕ) → Option (Result Element Fault) → Type 0
-Means None r = r ≡ None
-Means (Some os) None = ⊥
-Means (Some os) (Some (Ok e)) = os ≡ element_octets e
-Means (Some os) (Some (Err f)) = (fault_number f ≡ 14) × (96 < length os)
+-- What is read of words that spell octets: a value that means them. Where they spell none the line is unreadable.
+abbrev pub Gives : {X : Type 0} → (X → List ℕ) → Option (List ℕ) → Result X Stop → Type 0
+Gives octets o (Ok x) = o ≡ Some (octets x)
+Gives octets o (Err stop.Unreadable) = o ≡ None
+Gives octets o (Err (stop.Refused f)) = ⊥
+Gives octets o (Err (stop.OutOfMemory e)) = ⊤
+
+-- The same of elements. Only a block can have too many octets, which 14 refuses.
+abbrev pub Means : Option (List ℕ) → Result Element Stop → Type 0
+Means o (Ok e) = o ≡ Some (element_octets e)
+Means o (Err stop.Unreadable) = o ≡ None
+Means o (Err (stop.Refused f)) = (fault_number f ≡ 14) × IsSomeAnd o (λ os. 96 < length os)
+Means o (Err (stop.OutOfMemory e)) = ⊤

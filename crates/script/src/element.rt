@@ -1,14 +1,47 @@
 // Elements of every kind.
 ghost use Rattle.std.specs.Prelude.{◌≡◌};
+ghost use Rattle.std.specs.Result.{result_ok};
 ghost use Rattle.script.specs.Names.{form_of, kind_of};
 
+use crate::stop::UnknownName;
 use bytesable::{Block, Ray, Tweak};
+use std::str::FromStr;
 
 #[derive(Clone, Copy)]
 pub enum Element {
     Ray(Ray),
     Tweak(Tweak),
     Block(Block),
+}
+
+impl From<Ray> for Element {
+    ghost use Rattle.script.specs.declared.element.Element.TheVariants as element;
+
+    ghost from_gives = { λ x e. e ≡ element.Ray x };
+
+    fn from(ray: Ray) -> Element {
+        Element::Ray(ray)
+    }
+}
+
+impl From<Tweak> for Element {
+    ghost use Rattle.script.specs.declared.element.Element.TheVariants as element;
+
+    ghost from_gives = { λ x e. e ≡ element.Tweak x };
+
+    fn from(tweak: Tweak) -> Element {
+        Element::Tweak(tweak)
+    }
+}
+
+impl From<Block> for Element {
+    ghost use Rattle.script.specs.declared.element.Element.TheVariants as element;
+
+    ghost from_gives = { λ x e. e ≡ element.Block x };
+
+    fn from(block: Block) -> Element {
+        Element::Block(block)
+    }
 }
 
 // A type of elements.
@@ -19,16 +52,18 @@ pub(crate) enum Kind {
     Block,
 }
 
-impl Kind {
-    // The kind that a word names.
-    pub(crate) fn named(word: &str) -> Option<Kind>
-        ensures answer { result ≡ kind_of word.now }
-    {
+// The kind that a word names.
+impl FromStr for Kind {
+    type Err = UnknownName;
+
+    ghost from_str_gives = { λ word r. result_ok r ≡ kind_of word };
+
+    fn from_str(word: &str) -> Result<Kind, UnknownName> {
         match word {
-            "ray" => Some(Kind::Ray),
-            "tweak" => Some(Kind::Tweak),
-            "block" => Some(Kind::Block),
-            _ => None,
+            "ray" => Ok(Kind::Ray),
+            "tweak" => Ok(Kind::Tweak),
+            "block" => Ok(Kind::Block),
+            _ => Err(UnknownName),
         }
     }
 }
@@ -43,18 +78,20 @@ pub(crate) enum Form {
     Block,
 }
 
-impl Form {
-    // The form that a word names.
-    pub(crate) fn named(word: &str) -> Option<Form>
-        ensures answer { result ≡ form_of word.now }
-    {
+// The form that a word names.
+impl FromStr for Form {
+    type Err = UnknownName;
+
+    ghost from_str_gives = { λ word r. result_ok r ≡ form_of word };
+
+    fn from_str(word: &str) -> Result<Form, UnknownName> {
         match word {
-            "ray" => Some(Form::Ray),
-            "thickness" => Some(Form::Thickness),
-            "tilt" => Some(Form::Tilt),
-            "index" => Some(Form::Index),
-            "block" => Some(Form::Block),
-            _ => None,
+            "ray" => Ok(Form::Ray),
+            "thickness" => Ok(Form::Thickness),
+            "tilt" => Ok(Form::Tilt),
+            "index" => Ok(Form::Index),
+            "block" => Ok(Form::Block),
+            _ => Err(UnknownName),
         }
     }
 }

@@ -1,18 +1,22 @@
 // Does what a line asks for.
-ghost use Rattle.std.specs.Prelude.{◌≤◌, length, IfOk};
+ghost use Rattle.std.specs.Prelude.{◌≡◌, ◌≢◌, ◌≤◌, length, IfOk, IfSome, MatchResult};
+ghost use Rattle.std.specs.Result.{result_ok};
+ghost use Rattle.answers.specs.Faults.{number_of};
 ghost use Rattle.words.specs.Lines.{text_of, words_of};
-ghost use Rattle.script.specs.Plays.{Plays, PlaysRead, PlaysElement, PlaysMessage, ReadsElement, WritesMessage};
+ghost use Rattle.script.specs.Plays.{Plays, PlaysVerb, PlaysRead, PlaysElement, PlaysMessage, ReadsElement, WritesMessage, answer_to};
 ghost use Rattle.script.specs.Spelled.{element_octets};
 
 use crate::answer::Answer;
 use crate::element::{Element, Kind};
 use crate::spelling::{bytes_alone, element, header};
+use crate::stop::Stop;
 use crate::verb::Verb;
+use answers::Fault;
 use bytesable::{Block, Bytesable, Ray, Tweak};
 use framing::write_message;
 use networking::MessageHeader;
 use std::alloc::{AllocError, Global};
-use words::{line_text, next_word};
+use words::{Words, line_text};
 
 // Plays one line of a script, as it was read.
 pub fn play_line(heap: Global, line: &[u8]) -> Result<Answer, AllocError>
@@ -26,113 +30,87 @@ pub fn play_line(heap: Global, line: &[u8]) -> Result<Answer, AllocError>
 pub fn play(heap: Global, line: &str) -> Result<Answer, AllocError>
     ensures answer { IfOk result (λ a. Plays (words_of line.now) a) }
 {
-    let Some((word, rest)) = next_word(line) else {
+    let mut words = Words::of(line);
+    let Some(word) = words.next().filter(|word| !word.starts_with('#')) else {
         return Ok(Answer::Nothing);
     };
-    if word.starts_with('#') {
-        return Ok(Answer::Nothing);
-    }
-    let Some(verb) = Verb::named(word) else {
+    let Ok(verb) = word.parse::<Verb>() else {
         return Ok(Answer::Unreadable(None));
     };
+    answered(verb, play_verb(heap, verb, &mut words))
+}
+
+// The answer to a line of the verb, where it was stopped too.
+fn answered(verb: Verb, played: Result<Answer, Stop>) -> Result<Answer, AllocError>
+    ensures answer { result_ok result ≡ answer_to verb played }
+{
+    match played {
+        Ok(answer) => Ok(answer),
+        Err(Stop::Unreadable) => Ok(Answer::Unreadable(Some(verb))),
+        Err(Stop::Refused(fault)) => Ok(Answer::Refused(verb, fault)),
+        Err(Stop::OutOfMemory(error)) => Err(error),
+    }
+}
+
+fn play_verb(heap: Global, verb: Verb, words: &mut Words<'_>) -> Result<Answer, Stop>
+    ensures answer { IfSome (answer_to verb result) (PlaysVerb verb words.old) }
+{
     match verb {
-        Verb::Message => play_message(heap, rest),
-        Verb::Read => play_read(heap, rest),
-        Verb::Element => play_element(heap, rest),
+        Verb::Message => play_message(heap, words),
+        Verb::Read => play_read(heap, words),
+        Verb::Element => play_element(heap, words),
     }
 }
 
-fn play_read(heap: Global, text: &str) -> Result<Answer, AllocError>
-    ensures answer { IfOk result (λ a. PlaysRead (words_of text.now) a) }
+fn play_read(heap: Global, words: &Words<'_>) -> Result<Answer, Stop>
+    ensures answer { IfSome (answer_to Verb.Read result) (PlaysRead words.now) }
 {
-    match bytes_alone(heap, text)? {
-        Some(octets) => Ok(Answer::Header(MessageHeader::try_read(octets.as_slice()))),
-        None => Ok(Answer::Unreadable(Some(Verb::Read))),
-    }
+    let octets = bytes_alone(heap, words)?;
+    Ok(Answer::Header(MessageHeader::try_read(octets.as_slice())))
 }
 
-fn play_element(heap: Global, text: &str) -> Result<Answer, AllocError>
-    ensures answer { IfOk result (λ a. PlaysElement (words_of text.now) a) }
+fn play_element(heap: Global, words: &mut Words<'_>) -> Result<Answer, Stop>
+    ensures answer { IfSome (answer_to Verb.Element result) (PlaysElement words.old) }
 {
-    let Some((word, rest)) = next_word(text) else {
-        return Ok(Answer::Unreadable(Some(Verb::Element)));
-    };
-    let Some(kind) = Kind::named(word) else {
-        return Ok(Answer::Unreadable(Some(Verb::Element)));
-    };
-    match bytes_alone(heap, rest)? {
-        Some(octets) => Ok(read_element(kind, octets.as_slice())),
-        None => Ok(Answer::Unreadable(Some(Verb::Element))),
-    }
+    let kind = words.next().ok_or(Stop::Unreadable)?.parse::<Kind>()?;
+    let octets = bytes_alone(heap, words)?;
+    let element = read_element(kind, octets.as_slice())?;
+    Ok(Answer::Element(element))
 }
 
 // The element of a kind that the octets mean.
-fn read_element(kind: Kind, octets: &[u8]) -> Answer
-    ensures answer { ReadsElement kind octets.now result }
+fn read_element(kind: Kind, octets: &[u8]) -> Result<Element, Fault>
+    ensures answer { MatchResult result (λ e. ReadsElement kind octets.now (Answer.Element e)) (λ f. ReadsElement kind octets.now (Answer.Refused Verb.Element f)) }
 {
     match kind {
-        Kind::Ray => read_ray(octets),
-        Kind::Tweak => read_tweak(octets),
-        Kind::Block => read_block(octets),
+        Kind::Ray => read_over(Ray::default(), octets),
+        Kind::Tweak => read_over(Tweak::Thickness(0.0), octets),
+        Kind::Block => read_over(Block::empty(), octets),
     }
 }
 
-fn read_ray(octets: &[u8]) -> Answer
-    ensures answer { ReadsElement Kind.Ray octets.now result }
+// The element of one type that the octets mean; it is read over a value of that type.
+fn read_over<T: Bytesable + Into<Element> + Copy>(
+    mut value: T,
+    octets: &[u8],
+) -> Result<Element, Fault>
+    ensures answer { MatchResult result (λ e. (x : T) × T.converts x e × (octets.now ≡ T.bytes x)) (λ f. (number_of f ≡ 14) × ((x : T) → octets.now ≢ T.bytes x)) }
 {
-    let mut ray = Ray {
-        surface: 0,
-        height: 0,
-        path: 0,
-    };
-    match ray.from_bytes(octets) {
-        Ok(()) => Answer::Element(Element::Ray(ray)),
-        Err(fault) => Answer::Refused(Verb::Element, fault),
-    }
+    value.from_bytes(octets)?;
+    Ok(value.into())
 }
 
-fn read_tweak(octets: &[u8]) -> Answer
-    ensures answer { ReadsElement Kind.Tweak octets.now result }
+fn play_message(heap: Global, words: &mut Words<'_>) -> Result<Answer, Stop>
+    ensures answer { IfSome (answer_to Verb.Message result) (PlaysMessage words.old) }
 {
-    let mut tweak = Tweak::Thickness(0.0);
-    match tweak.from_bytes(octets) {
-        Ok(()) => Answer::Element(Element::Tweak(tweak)),
-        Err(fault) => Answer::Refused(Verb::Element, fault),
-    }
-}
-
-fn read_block(octets: &[u8]) -> Answer
-    ensures answer { ReadsElement Kind.Block octets.now result }
-{
-    let mut block = Block::empty();
-    match block.from_bytes(octets) {
-        Ok(()) => Answer::Element(Element::Block(block)),
-        Err(fault) => Answer::Refused(Verb::Element, fault),
-    }
-}
-
-fn play_message(heap: Global, text: &str) -> Result<Answer, AllocError>
-    ensures answer { IfOk result (λ a. PlaysMessage (words_of text.now) a) }
-{
-    let Some((header, rest)) = header(text) else {
-        return Ok(Answer::Unreadable(Some(Verb::Message)));
-    };
-    let Some(spelled) = element(heap, rest)? else {
-        return Ok(Answer::Unreadable(Some(Verb::Message)));
-    };
-    match spelled {
-        Ok(element) => write_element(heap, &header, &element),
-        Err(fault) => Ok(Answer::Refused(Verb::Message, fault)),
-    }
+    let header = header(words).ok_or(Stop::Unreadable)?;
+    let element = element(heap, words)?;
+    write_element(heap, &header, &element)
 }
 
 // The octets of a message that carries the element.
-fn write_element(
-    heap: Global,
-    header: &MessageHeader,
-    element: &Element,
-) -> Result<Answer, AllocError>
-    ensures answer { IfOk result (λ a. WritesMessage header.now (element_octets element.now) a) }
+fn write_element(heap: Global, header: &MessageHeader, element: &Element) -> Result<Answer, Stop>
+    ensures answer { IfSome (answer_to Verb.Message result) (WritesMessage header.now (element_octets element.now)) }
 {
     match element {
         Element::Ray(ray) => write_bytesable(heap, header, ray),
@@ -145,13 +123,11 @@ fn write_bytesable<T: Bytesable>(
     heap: Global,
     header: &MessageHeader,
     element: &T,
-) -> Result<Answer, AllocError>
+) -> Result<Answer, Stop>
     requires { length (T.bytes element.now) ≤ 96 }
-    ensures answer { IfOk result (λ a. WritesMessage header.now (T.bytes element.now) a) }
+    ensures answer { IfSome (answer_to Verb.Message result) (WritesMessage header.now (T.bytes element.now)) }
 {
     let mut message = vec![in heap; 0u8; 48 + element.length_in_bytes()]?;
-    match write_message(header, element, message.as_mut_slice()) {
-        Ok(()) => Ok(Answer::Message(message)),
-        Err(fault) => Ok(Answer::Refused(Verb::Message, fault)),
-    }
+    write_message(header, element, message.as_mut_slice())?;
+    Ok(Answer::Message(message))
 }

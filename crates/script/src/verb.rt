@@ -1,6 +1,11 @@
 // What a line asks for.
-ghost use Rattle.std.specs.Prelude.{◌≡◌};
+ghost use Rattle.std.specs.Prelude.{◌≡◌, Some};
+ghost use Rattle.std.specs.Result.{result_ok};
 ghost use Rattle.script.specs.Names.{verb_name, verb_of};
+
+use crate::stop::UnknownName;
+use std::fmt;
+use std::str::FromStr;
 
 #[derive(Clone, Copy)]
 pub enum Verb {
@@ -9,27 +14,31 @@ pub enum Verb {
     Element,
 }
 
-impl Verb {
-    // The verb that a word names.
-    pub(crate) fn named(word: &str) -> Option<Verb>
-        ensures answer { result ≡ verb_of word.now }
-    {
+// The verb that a word names.
+impl FromStr for Verb {
+    type Err = UnknownName;
+
+    ghost from_str_gives = { λ word r. result_ok r ≡ verb_of word };
+
+    fn from_str(word: &str) -> Result<Verb, UnknownName> {
         match word {
-            "message" => Some(Verb::Message),
-            "read" => Some(Verb::Read),
-            "element" => Some(Verb::Element),
-            _ => None,
+            "message" => Ok(Verb::Message),
+            "read" => Ok(Verb::Read),
+            "element" => Ok(Verb::Element),
+            _ => Err(UnknownName),
         }
     }
+}
 
-    // The word that names the verb.
-    pub(crate) fn name(self) -> &'static str
-        ensures answer { result.now ≡ verb_name self }
-    {
-        match self {
+// The word that names the verb.
+impl fmt::Display for Verb {
+    ghost output = { λ v. Some (verb_name v) };
+
+    fn fmt<W: fmt::Write>(&self, f: &mut fmt::Formatter<W>) -> fmt::Result {
+        f.write_str(match self {
             Verb::Message => "message",
             Verb::Read => "read",
             Verb::Element => "element",
-        }
+        })
     }
 }

@@ -1,10 +1,11 @@
 -- What `parse` reads, in the words of `specs.Decimals`. Assumes nothing.
-use Rattle.std.proofs.Common.{◌≡◌, ℕ, ◌-◌, ◌^◌, ◌<◌, ◌≤◌, Bool, true, false, cond, ◌&&◌, leb, List, [], ◌∷◌, length, get_or, pos, Some, None, Ok, Err, Option, Result, sym, refl, ap, ◌∙◌, ⊎_elim, arith, rules}
-use Rattle.std.proofs.lemmas.Str.Parse.{IsNumeralModel, numerals_by_weight, parse_plain}
-use Rattle.std.proofs.lemmas.Bool.{and_parts, and_from, leb-true, ltb-true, le-leb, lt-leb, lt-ltb, cases_lt, cases_Bool, ne_eqb, cond-true, cond-false}
+use Rattle.std.proofs.Common.{◌≡◌, ℕ, ◌-◌, ◌^◌, ◌<◌, ◌≤◌, Bool, true, false, cond, ◌&&◌, leb, List, [], ◌∷◌, length, get_or, ℤ, pos, neg_ℤ, w64, Some, None, Ok, Err, Option, Result, sym, refl, ap, ◌∙◌, ⊎_elim, arith, rules}
+use Rattle.std.proofs.lemmas.Str.Parse.{IsNumeralModel, numerals_by_weight, parse_plain, parse_signed_minus, parse_signed_plain}
+use Rattle.std.proofs.lemmas.Bool.{and_parts, and_from, leb-true, ltb-true, le-leb, lt-leb, lt-ltb, cases_lt, cases_eq, cases_Bool, eq-eqb, ne_eqb, cond-true, cond-false}
 use Rattle.std.specs.Result.{OkIff, result_ok}
-use Rattle.std.specs.Option.{option_map}
-use Rattle.std.specs.Str.Parse.{ParsesUnsigned}
+use Rattle.std.specs.Bool.{then_some}
+use Rattle.std.specs.Option.{MatchOption, option_map}
+use Rattle.std.specs.Str.Parse.{ParsesUnsigned, ParsesSigned}
 use Rattle.std.specs.Str.{all_ascii_digits}
 use Rattle.words.specs.Decimals.{digits_value, is_number, unsigned_of, signed_of}
 
@@ -27,20 +28,16 @@ unfit most cs no_fit =
     (cases_Bool (is_number cs && leb (digits_value cs) most))
 
 -- a conversion that succeeds just where the number fits
-converted : {E : Type 0} (most : ℕ) (cs : List ℕ) (r : Result ℕ E) (P : Type 0) → (P → Fit most cs) → (Fit most cs → P) → OkIff r P (digits_value cs) → result_ok r ≡ unsigned_of most cs
-converted most cs (Ok n) P to from h = ap Some h.1 ∙ sym (fit most cs (to h.0))
-converted most cs (Err e) P to from h = sym (unfit most cs (λ p. h (from p)))
-
-pub parsed_unsigned : {E : Type 0} (cs : List ℕ) (r : Result ℕ E) → ParsesUnsigned 64 10 cs r → (get_or cs 0 0 ≡ 43 → ⊥) → result_ok r ≡ unsigned_of (2 ^ 64 - 1) cs
-parsed_unsigned cs r h plain =
-    converted (2 ^ 64 - 1) cs r _ (λ p. (p.0, p.1, omega arith)) (λ p. (p.0, p.1, omega arith)) (parse_plain own 64 cs r h plain)
+converted : {A E : Type 0} (f : ℕ → A) (most : ℕ) (cs : List ℕ) (r : Result A E) (P : Type 0) → (P → Fit most cs) → (Fit most cs → P) → OkIff r P (f (digits_value cs)) → result_ok r ≡ option_map f (unsigned_of most cs)
+converted f most cs (Ok n) P to from h = ap Some h.1 ∙ sym (ap (option_map f) (fit most cs (to h.0)))
+converted f most cs (Err e) P to from h = sym (ap (option_map f) (unfit most cs (λ p. h (from p))))
 
 -- a smaller bound on a number in hand
 abbrev pub capped : ℕ → Option ℕ → Option ℕ
 capped most None = None
 capped most (Some n) = cond (leb n most) (Some n) None
 
-capped_if : (b : Bool) (n high most : ℕ) → most ≤ high → capped most (cond (b && leb n high) (Some n) None) ≡ cond (b && leb n most) (Some n) None
+capped_if : (b : Bool) (n high most : ℕ) → most ≤ high → capped most (option_map (λ x. x) (cond (b && leb n high) (Some n) None)) ≡ cond (b && leb n most) (Some n) None
 capped_if true n high most small =
     ⊎_elim
     (λ past. rw (lt-leb n high past, lt-leb n most (omega arith)))
@@ -48,10 +45,30 @@ capped_if true n high most small =
     (cases_lt high n)
 capped_if false n high most small = refl
 
-pub capped_unsigned : (most : ℕ) (cs : List ℕ) (o : Option ℕ) → most < 2 ^ 64 → o ≡ unsigned_of (2 ^ 64 - 1) cs → capped most o ≡ unsigned_of most cs
-capped_unsigned most cs o small e = ap (capped most) e ∙ capped_if (is_number cs) (digits_value cs) (2 ^ 64 - 1) most (omega arith)
+-- a word that begins with no plus
+pub parsed_unsigned : {E : Type 0} (most : ℕ) (cs : List ℕ) (r : Result ℕ E) → most < 2 ^ 64 → ParsesUnsigned 64 10 cs r → (get_or cs 0 0 ≡ 43 → ⊥) → capped most (result_ok r) ≡ unsigned_of most cs
+parsed_unsigned most cs r small h plain =
+    ap (capped most) (converted (λ x. x) (2 ^ 64 - 1) cs r _ (λ p. (p.0, p.1, omega arith)) (λ p. (p.0, p.1, omega arith)) (parse_plain own 64 cs r h plain))
+    ∙ capped_if (is_number cs) (digits_value cs) (2 ^ 64 - 1) most (omega arith)
 
--- a word with no minus
-pub signed_plain : (cs : List ℕ) → ((rest : List ℕ) → cs ≡ 45 ∷ rest → ⊥) → option_map pos (unsigned_of (2 ^ 63 - 1) cs) ≡ signed_of cs
-signed_plain [] plain = refl
-signed_plain (c ∷ cs) plain = sym (cond-false _ _ _ (ne_eqb c 45 (λ e. plain cs (ap (λ x. x ∷ cs) e))))
+plain_signed : {E : Type 0} (cs : List ℕ) (r : Result ℤ E) → ParsesSigned w64 10 cs r → (get_or cs 0 0 ≡ 43 → ⊥) → (get_or cs 0 0 ≡ 45 → ⊥) → result_ok r ≡ option_map pos (unsigned_of (2 ^ 63 - 1) cs)
+plain_signed cs r h plus minus = converted pos (2 ^ 63 - 1) cs r _ (λ p. (p.0, p.1, omega arith)) (λ p. (p.0, p.1, omega arith)) (parse_signed_plain own w64 cs r h plus minus)
+
+minus_signed : {E : Type 0} (c : ℕ) (cs : List ℕ) (r : Result ℤ E) → c ≡ 45 → ParsesSigned w64 10 (c ∷ cs) r → result_ok r ≡ option_map (λ n. neg_ℤ (pos n)) (unsigned_of (2 ^ 63) cs)
+minus_signed c cs r e h = converted (λ n. neg_ℤ (pos n)) (2 ^ 63) cs r _ (λ p. p) (λ p. p) (parse_signed_minus own w64 (c ∷ cs) r h e)
+
+pub parsed_signed : {E : Type 0} (cs : List ℕ) (r : Result ℤ E) → ParsesSigned w64 10 cs r → (get_or cs 0 0 ≡ 43 → ⊥) → result_ok r ≡ signed_of cs
+parsed_signed [] r h plus = plain_signed [] r h plus (λ e. omega arith)
+parsed_signed (c ∷ cs) r h plus = ⊎_elim
+    (λ e. minus_signed c cs r e h ∙ sym (cond-true _ _ _ (eq-eqb c 45 e)))
+    (λ other. plain_signed (c ∷ cs) r h plus other ∙ sym (cond-false _ _ _ (ne_eqb c 45 other)))
+    (cases_eq c 45)
+
+then_cond : (b : Bool) (n : ℕ) → then_some b n ≡ cond b (Some n) None
+then_cond true n = refl
+then_cond false n = refl
+
+-- a number that is kept where it is at most `most`
+pub kept : (most : ℕ) (o r : Option ℕ) (Says : ℕ → Bool → Type 0) → ((n : ℕ) (b : Bool) → Says n b → b ≡ leb n most) → MatchOption o (r ≡ None) (λ n. (b : Bool) × Says n b × (r ≡ then_some b n)) → r ≡ capped most o
+kept most None r Says test h = h
+kept most (Some n) r Says test h = h.2 ∙ ap (λ b. then_some b n) (test n h.0 h.1) ∙ then_cond (leb n most) n

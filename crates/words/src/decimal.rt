@@ -10,22 +10,16 @@ pub fn unsigned(word: &str, most: u64) -> Option<u64>
     if word.starts_with('+') {
         return None;
     }
-    let value = word.parse::<u64>().ok()?;
-    if value <= most { Some(value) } else { None }
+    word.parse::<u64>().ok().filter(|value| *value <= most)
 }
 
 // A number of digits behind an optional minus, where it fits.
 pub fn signed(word: &str) -> Option<i64>
     ensures { result ≡ signed_of word.now }
 {
-    match word.strip_prefix('-') {
-        Some(digits) => {
-            let magnitude = unsigned(digits, 1 << 63)?;
-            Some(-i128::from(magnitude) as i64)
-        }
-        None => {
-            let value = unsigned(word, (1 << 63) - 1)?;
-            Some(value as i64)
-        }
+    // `parse` would take a plus.
+    if word.starts_with('+') {
+        return None;
     }
+    word.parse::<i64>().ok()
 }

@@ -6,5 +6,5 @@ mod hexadecimal;
 mod line;
 
 pub use decimal::{signed, unsigned};
-pub use hexadecimal::{bytes, pattern, push_bytes, push_pattern};
-pub use line::{line_text, next_word, only_word};
+pub use hexadecimal::{HexBytes, HexPattern, bytes, pattern, push_bytes, push_pattern};
+pub use line::{Words, line_text, next_word, only_word};

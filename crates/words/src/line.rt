@@ -1,25 +1,58 @@
 // The words of a line, which blanks part.
-ghost use Rattle.std.specs.Prelude.{◌≡◌, ℕ, ◌<◌, List, [], ◌∷◌, IfOk, string_bytes, MatchOption, ◌≢◌};
+ghost use Rattle.std.specs.Prelude.{◌≡◌, ℕ, List, [], ◌∷◌, IfOk, string_bytes, MatchOption, ◌≢◌};
 ghost use Rattle.words.specs.Lines.{plain_of, text_of, unreturned, words_of};
 
 use std::alloc::{AllocError, Global};
+use std::marker::Model;
+
+// The words of a line that are still to be read.
+#[derive(Drop)]
+pub struct Words<'a> {
+    rest: &'a str,
+}
+
+impl<'a> Model for Words<'a> {
+    ghost use Rattle.std.specs.Prelude.{ℕ, List};
+    ghost use Rattle.words.specs.Lines.{words_of};
+
+    ghost Value = { List (List ℕ) };
+
+    ghost view = { λ w. words_of w.rest.now };
+}
+
+impl<'a> Words<'a> {
+    pub fn of(line: &'a str) -> Words<'a>
+        ensures { result ≡ words_of line.now }
+    {
+        Words { rest: line }
+    }
+
+    // Takes the next word.
+    pub fn next(&mut self) -> Option<&'a str>
+        ensures answer { MatchOption result ((self.old ≡ []) × (self.new ≡ [])) (λ w. self.old ≡ w.now ∷ self.new) }
+    {
+        let (word, rest) = next_word(self.rest)?;
+        self.rest = rest;
+        Some(word)
+    }
+
+    // The word that is left, where it is just one.
+    pub fn only(&self) -> Option<&'a str>
+        ensures answer { MatchOption result ((w : List ℕ) → self.now ≢ w ∷ []) (λ w. self.now ≡ w.now ∷ []) }
+    {
+        only_word(self.rest)
+    }
+}
 
 // The first word of a line and what is behind it.
 pub fn next_word(line: &str) -> Option<(&str, &str)>
     ensures answer { MatchOption result (words_of line.now ≡ []) (λ p. words_of line.now ≡ p.0.now ∷ words_of p.1.now) }
 {
-    let mut rest = line;
-    while let Some((word, behind)) = rest.split_once(' ') {
-        if !word.is_empty() {
-            return Some((word, behind));
-        }
-        rest = behind;
+    let line = line.trim_start_matches(' ');
+    if line.is_empty() {
+        return None;
     }
-    if rest.is_empty() {
-        None
-    } else {
-        Some((rest, ""))
-    }
+    Some(line.split_once(' ').unwrap_or((line, "")))
 }
 
 // The word of a line that has just one.
@@ -27,10 +60,7 @@ pub fn only_word(line: &str) -> Option<&str>
     ensures answer { MatchOption result ((w : List ℕ) → words_of line.now ≢ w ∷ []) (λ w. words_of line.now ≡ w.now ∷ []) }
 {
     let (word, rest) = next_word(line)?;
-    match next_word(rest) {
-        None => Some(word),
-        Some(_) => None,
-    }
+    next_word(rest).is_none().then_some(word)
 }
 
 // The text of a line: a carriage return at its end is no part of it, and each byte that is no ASCII becomes a question mark, which
@@ -38,27 +68,26 @@ pub fn only_word(line: &str) -> Option<&str>
 pub fn line_text(heap: Global, line: &[u8]) -> Result<String, AllocError>
     ensures answer { IfOk result (λ t. string_bytes t ≡ text_of line.now) }
 {
-    let mut text = String::new(heap);
-    for byte in without_return(line) {
-        text.push(plain(*byte))?;
-    }
-    Ok(text)
+    without_return(line)
+        .iter()
+        .map(|byte| plain(*byte))
+        .collect(heap)
 }
 
 // A line without a carriage return at its end.
 fn without_return(line: &[u8]) -> &[u8]
     ensures { result.now ≡ unreturned line.now }
 {
-    if line.len() > 0 && line[line.len() - 1] == b'\r' {
-        &line[0..line.len() - 1]
-    } else {
-        line
-    }
+    line.strip_suffix(b"\r").unwrap_or(line)
 }
 
+// A byte as text.
 fn plain(byte: u8) -> char
     ensures answer { result ≡ plain_of byte }
-    ensures ascii { result < 128 }
 {
-    if byte < 128 { char::from(byte) } else { '?' }
+    if byte.is_ascii() {
+        char::from(byte)
+    } else {
+        '?'
+    }
 }

@@ -111,6 +111,35 @@ mod tests {
     }
 
     #[test]
+    fn words_of_a_line(rt: HostRuntime) {
+        let mut line = words::Words::of("  read  4142 ");
+        assert!(rt; line.only().is_none());
+        assert_eq!(rt; line.next(), Some("read"));
+        assert_eq!(rt; line.only(), Some("4142"));
+        assert_eq!(rt; line.next(), Some("4142"));
+        assert!(rt; line.only().is_none());
+        assert!(rt; line.next().is_none());
+    }
+
+    #[test]
+    fn texts_of_lines(rt: HostRuntime) -> Result<(), Fail> {
+        let text = words::line_text(rt.alloc(), b"read 41\xff\r")?;
+        assert_eq!(rt; text.as_str(), "read 41?");
+        Ok(())
+    }
+
+    #[test]
+    fn bytes_and_patterns_are_printed(rt: HostRuntime) -> Result<(), Fail> {
+        let alloc = rt.alloc();
+        let bytes = words::HexBytes(b"\x0f\xf0");
+        let none = words::HexBytes(b"");
+        let pattern = words::HexPattern(0xa9);
+        let text = format!(in alloc; "{bytes} {none} {pattern}")?;
+        assert_eq!(rt; text.as_str(), "0ff0 - 00000000000000a9");
+        Ok(())
+    }
+
+    #[test]
     fn words_are_appended(rt: HostRuntime) -> Result<(), Fail> {
         let mut line = String::from_str(rt.alloc(), "say ")?;
         words::push_bytes(&mut line, b"")?;

@@ -1,5 +1,4 @@
 use Rattle.std.proofs.Common.{arith}
-use Rattle.bytesable.proofs.BlockLaws.{block_most}
 use Rattle.bytesable.proofs.RayLaws.{length-ray_octets}
 use Rattle.bytesable.proofs.TweakLaws.{length-tweak_octets, size_most}
 use Rattle.script.proofs.playing.write_element.Goals as goal
@@ -9,6 +8,3 @@ write_bytesable-requires c = omega (arith, length-ray_octets c.in-Ray.ray)
 
 pub write_bytesable-requires-in-Tweak : goal.write_bytesable-requires-in-Tweak
 write_bytesable-requires-in-Tweak c = omega (arith, length-tweak_octets c.in-Tweak.tweak, size_most c.in-Tweak.tweak)
-
-pub write_bytesable-requires-in-Block : goal.write_bytesable-requires-in-Block
-write_bytesable-requires-in-Block c = block_most c.in-Block.block

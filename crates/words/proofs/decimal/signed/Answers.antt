@@ -1,13 +1,11 @@
-use Rattle.std.proofs.Common.{◌≡◌, ℕ, ◌-◌, ◌^◌, List, ◌∷◌, ◌++◌, pos, None, ap, sym, ◌∙◌, arith}
-use Rattle.std.proofs.lemmas.Str.{encode_ascii}
-use Rattle.std.specs.Option.{option_map}
-use Rattle.words.specs.Decimals.{unsigned_of}
-use Rattle.words.proofs.Numbers.{signed_plain}
+use Rattle.std.proofs.Common.{◌∙◌, arith}
+use Rattle.std.proofs.lemmas.Str.Pattern.{starts_char}
+use Rattle.std.proofs.lemmas.Bool.Decides.{not_from_Decides}
+use Rattle.words.proofs.Numbers.{parsed_signed}
 use Rattle.words.proofs.decimal.signed.Goals as goal
 
-pub returns-in_err-value-in-None : goal.returns-in_err-value-in-None
-returns-in_err-value-in-None c =
+pub returns : goal.returns
+returns c =
     let word = c.args.word.now in
-    let plain = λ (rest : List ℕ) (e : word ≡ 45 ∷ rest). c.in-None.ensures.cases rest (e ∙ sym (ap (λ xs. xs ++ rest) (encode_ascii 45 (omega arith)))) in
-    let unread : None ≡ unsigned_of (2 ^ 63 - 1) word = c.in_err-value-in-None.ensures in
-    c.from_residual-in_err-value-in-None.ensures ∙ ap (option_map pos) unread ∙ signed_plain word plain
+    let plain = not_from_Decides _ (starts_char 43 word _ c.starts_with.ensures.cases (omega arith) (omega arith)) c.if-starts_with.false in
+    c.ok.ensures.value ∙ parsed_signed word c.parse.result c.parse.ensures.value.0 plain

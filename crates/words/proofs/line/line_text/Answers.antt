@@ -1,15 +1,13 @@
-use Rattle.std.proofs.Common.{[], ◌∷◌, ◌++◌, map, take, string_bytes, sym, ap, ◌∙◌, take_all}
+use Rattle.std.proofs.Common.{map, ap, ◌∙◌, rules}
+use Rattle.std.proofs.lemmas.Iterator.{YieldsList-from_slice, YieldsList-from_map, text_from_collect}
+use Rattle.std.proofs.lemmas.Str.{encodes-IsAscii}
+use Rattle.std.proofs.lemmas.Result.{IfOk-weaker}
 use Rattle.words.specs.Lines.{plain_of}
-use Rattle.words.proofs.Parting.{plain_more}
+use Rattle.words.proofs.Parting.{plain_ascii}
 use Rattle.words.proofs.line.line_text.Goals as goal
-
-pub loop-byte-preserved : goal.loop-byte-preserved
-loop-byte-preserved c =
-    let xs = c.without_return-byte-items.result.now in
-    let pushed = c.in_ok-push.ensures in
-    pushed.bytes ∙ ap (λ l. string_bytes c.loop-byte.text ++ l) (pushed.ascii c.plain.ensures.ascii) ∙ ap (λ l. l ++ (c.plain.result ∷ [])) c.loop-byte.invariant ∙ ap (λ n. map plain_of (take c.loop-byte.byte-index xs) ++ (n ∷ [])) c.plain.ensures.answer ∙ sym (plain_more xs c.loop-byte.byte-index c.loop-byte-test.true)
 
 pub returns : goal.returns
 returns c =
-    let xs = c.without_return-byte-items.result.now in
-    record { answer = c.loop-byte.invariant ∙ ap (map plain_of) (take_all c.loop-byte.byte-index xs c.loop-byte-test.false ∙ c.without_return-byte-items.ensures) }
+    let xs = c.without_return.result.now in
+    let text = text_from_collect c.collect.result c.collect.ensures.ran (YieldsList-from_map _ plain_of (YieldsList-from_slice xs (cc)) (cc) (λ x r q k. search rules)) in
+    record { answer = IfOk-weaker c.collect.result _ _ (λ t e. e ∙ encodes-IsAscii (map plain_of xs) (plain_ascii xs) ∙ ap (map plain_of) c.without_return.ensures) text }

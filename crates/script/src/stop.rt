@@ -1,0 +1,48 @@
+// Why a line is answered by no more than its verb.
+ghost use Rattle.std.specs.Prelude.{◌≡◌};
+
+use answers::Fault;
+use std::alloc::AllocError;
+
+// A word that names nothing of the kind that is looked for.
+#[derive(Clone, Copy, Debug, PartialEq, Eq)]
+pub struct UnknownName;
+
+#[derive(Drop)]
+pub(crate) enum Stop {
+    // The line has not the form of its verb.
+    Unreadable,
+    // The action was refused.
+    Refused(Fault),
+    OutOfMemory(AllocError),
+}
+
+impl From<UnknownName> for Stop {
+    ghost use Rattle.script.specs.declared.stop.Stop.TheVariants.{Unreadable};
+
+    ghost from_gives = { λ _ s. s ≡ Unreadable };
+
+    fn from(_name: UnknownName) -> Stop {
+        Stop::Unreadable
+    }
+}
+
+impl From<Fault> for Stop {
+    ghost use Rattle.script.specs.declared.stop.Stop.TheVariants.{Refused};
+
+    ghost from_gives = { λ f s. s ≡ Refused f };
+
+    fn from(fault: Fault) -> Stop {
+        Stop::Refused(fault)
+    }
+}
+
+impl From<AllocError> for Stop {
+    ghost use Rattle.script.specs.declared.stop.Stop.TheVariants.{OutOfMemory};
+
+    ghost from_gives = { λ e s. s ≡ OutOfMemory e };
+
+    fn from(error: AllocError) -> Stop {
+        Stop::OutOfMemory(error)
+    }
+}
