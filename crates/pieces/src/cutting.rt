@@ -11,7 +11,8 @@ impl Piece {
     pub fn new(buffer: usize, start: usize, len: usize) -> Option<Piece>
         ensures answer { option_map span result ≡ piece buffer start len }
     {
-        if buffer >= 16 || start > 4096 || len < 1 || len > 4096 - start {
+        let end = start.checked_add(len)?;
+        if buffer >= 16 || len < 1 || end > 4096 {
             return None;
         }
         Some(Piece { buffer, start, len })

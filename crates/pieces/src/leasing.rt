@@ -1,4 +1,4 @@
-ghost use Rattle.std.specs.Prelude.{◌≡◌, replicate};
+ghost use Rattle.std.specs.Prelude.{◌≡◌, replicate, None, MatchOption};
 ghost use Rattle.std.specs.List.{slice_get};
 ghost use Rattle.pieces.specs.Counts.{counts, more, less, counted};
 
@@ -24,16 +24,24 @@ impl Leases {
         self.counts.get(buffer)
     }
 
+    // Another count for a piece's buffer, where the buffer has one and it can change so; answers it then.
+    fn recount<F: FnOnce(u16) -> Option<u16>>(&mut self, piece: Piece, change: F) -> Option<u16>
+        requires { F.IsAlwaysCallable change }
+        ensures answer { MatchOption (slice_get (counts self.old) piece.buffer) (result ≡ None) (λ n. F.post change n result) }
+        ensures after { counts self.new ≡ counted (counts self.old) piece.buffer result }
+    {
+        let count = self.counts.get(piece.buffer).and_then(change)?;
+        let _ = self.counts.replace(piece.buffer, count);
+        Some(count)
+    }
+
     // A piece more, by cutting or copying; answers its buffer's count then. None where the region has no such
     // buffer, or its count cannot rise: nothing changes then.
     pub fn add(&mut self, piece: Piece) -> Option<u16>
         ensures answer { result ≡ more (slice_get (counts self.old) piece.buffer) }
         ensures after { counts self.new ≡ counted (counts self.old) piece.buffer result }
     {
-        let count = self.counts.get(piece.buffer)?;
-        let raised = count.checked_add(1)?;
-        let _ = self.counts.replace(piece.buffer, raised);
-        Some(raised)
+        self.recount(piece, |count| count.checked_add(1))
     }
 
     // A piece less, by merging or giving back; answers its buffer's count then. None where the buffer has no
@@ -42,9 +50,6 @@ impl Leases {
         ensures answer { result ≡ less (slice_get (counts self.old) piece.buffer) }
         ensures after { counts self.new ≡ counted (counts self.old) piece.buffer result }
     {
-        let count = self.counts.get(piece.buffer)?;
-        let lowered = count.checked_sub(1)?;
-        let _ = self.counts.replace(piece.buffer, lowered);
-        Some(lowered)
+        self.recount(piece, |count| count.checked_sub(1))
     }
 }
