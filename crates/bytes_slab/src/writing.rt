@@ -7,6 +7,7 @@ use crate::slab::BytesSlab;
 use answers::Fault;
 use pieces::Piece;
 use shape::Shape;
+use std::ops::Range;
 
 impl BytesSlab {
     // A slab with no valid byte, at the front of a buffer.
@@ -35,13 +36,13 @@ impl BytesSlab {
         Ok(&region[at + self.begin..at + self.end])
     }
 
-    // The places of the region that may be written: where they begin, and where they end.
-    pub fn empty(&self) -> (usize, usize)
-        ensures begin { result.0 ≡ self.now.buffer * self.now.shape.size + self.now.end }
-        ensures end { result.1 ≡ self.now.buffer * self.now.shape.size + self.now.shape.size }
+    // The places of the region that may be written.
+    pub fn empty(&self) -> Range<usize>
+        ensures begin { result.start ≡ self.now.buffer * self.now.shape.size + self.now.end }
+        ensures end { result.end ≡ self.now.buffer * self.now.shape.size + self.now.shape.size }
     {
         let at = self.buffer * self.shape.size;
-        (at + self.end, at + self.shape.size)
+        at + self.end..at + self.shape.size
     }
 
     // Makes the next `count` bytes valid; false, and nothing changes, where the buffer has not so many.
@@ -61,7 +62,7 @@ impl BytesSlab {
         ensures answer { option_map span result ≡ extracted (seen self.old) count }
         ensures after { seen self.new ≡ shortened (seen self.old) count }
     {
-        if count < 1 || self.end - self.begin < count {
+        if !(1..=self.end - self.begin).contains(&count) {
             return None;
         }
         let piece = Piece {

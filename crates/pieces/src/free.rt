@@ -1,4 +1,4 @@
-ghost use Rattle.std.specs.Prelude.{◌≡◌, count_by};
+ghost use Rattle.std.specs.Prelude.{◌≡◌, ◌<◌, count_by, IfSome};
 ghost use Rattle.std.specs.List.{find, range_with_len};
 ghost use Rattle.pieces.specs.Counts.{behind};
 ghost use Rattle.pieces.specs.Free.{buffers, is_free};
@@ -23,6 +23,7 @@ impl FreeBuffers<'_> {
     // The next of them in cyclic order after one.
     pub fn next_after(&self, own: usize) -> Option<usize>
         ensures answer { result ≡ find (is_free self.now) (behind own (buffers self.now)) }
+        ensures known { IfSome result (λ buffer. buffer < buffers self.now) }
     {
         let buffers = self.leases.counts.len();
         let above = own.saturating_add(1)..buffers;
@@ -33,6 +34,7 @@ impl FreeBuffers<'_> {
     // The lowest of them.
     pub fn lowest(&self) -> Option<usize>
         ensures answer { result ≡ find (is_free self.now) (range_with_len 0 (buffers self.now)) }
+        ensures known { IfSome result (λ buffer. buffer < buffers self.now) }
     {
         (0..self.leases.counts.len()).find(|&buffer| self.contains(buffer))
     }

@@ -6,8 +6,8 @@ use Rattle.pieces.specs.Free.{buffers, is_free}
 use Rattle.pieces.proofs.Found.{first_found, range_capped}
 use Rattle.pieces.proofs.free.FreeBuffers.next_after.Goals as goal
 
-pub returns : goal.returns
-returns c =
+pub returns-clause-answer : goal.returns-clause-answer
+returns-clause-answer c =
     let p = is_free c.args.self.now in
     let n = buffers c.args.self.now in
     let s = c.saturating_add.result in
@@ -18,4 +18,4 @@ returns c =
     (λ x q e. search rules) (λ x q e. search rules) in
     let above = ap₂ (λ a b. range_with_len a (b - a)) c.saturating_add.ensures c.len-buffers.ensures.answer ∙ range_capped (c.args.own + 1) n 18446744073709551615 (omega arith) in
     let below : k ≡ min c.args.own n = omega arith in
-    record { answer = first_found p _ _ found ∙ ap₂ (λ xs j. find p (xs ++ range_with_len 0 j)) above below }
+    first_found p _ _ found ∙ ap₂ (λ xs j. find p (xs ++ range_with_len 0 j)) above below
