@@ -2,7 +2,7 @@ use fixed::Fixed;
 use pieces::Piece;
 
 // An entry of a queue: bytes resident in the region, or the handle of a chunk that a store keeps.
-#[derive(Clone, Copy)]
+#[derive(Clone, Copy, Debug, PartialEq, Eq, Hash)]
 pub enum QueueEntry {
     Resident(Piece),
     Paged(u64),
@@ -15,7 +15,7 @@ pub struct MergeQueue {
 }
 
 // What became of a piece that a queue was extended by.
-#[derive(Clone, Copy, Debug, PartialEq)]
+#[derive(Clone, Copy, Debug, PartialEq, Eq, Hash)]
 pub enum Extended {
     // It is a part of the last entry: its lease ends.
     Merged,
