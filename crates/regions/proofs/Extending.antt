@@ -2,6 +2,7 @@
 use Rattle.std.proofs.Common.{◌≡◌, ℕ, ◌+◌, ◌-◌, true, false, cond, ◌⊎◌, List, [], ◌∷◌, ◌++◌, length, set, Some, None, Option, sym, refl, ap, ◌∙◌, subst, eqb, inl, inr, ⊎_elim, arith}
 use Rattle.std.specs.List.{slice_get}
 use Rattle.std.specs.Option.{option_map}
+use Rattle.std.proofs.Math.Seq.{set-append_seam}
 use Rattle.std.proofs.lemmas.List.{append_assoc, append-nil, length-append}
 use Rattle.std.proofs.lemmas.Grind.{flat_map-append}
 use Rattle.std.proofs.lemmas.Bool.{cases_Bool, cond-false, cond-true}
@@ -28,10 +29,6 @@ last_is : (es : List Entry) (l : Entry) → slice_get (es ++ l ∷ []) (length e
 last_is [] l = refl
 last_is (e ∷ es) l = last_is es l
 
-last_set : (es : List Entry) (l m : Entry) → set (es ++ l ∷ []) (length es) m ≡ es ++ m ∷ []
-last_set [] l m = refl
-last_set (e ∷ es) l m = ap (λ xs. e ∷ xs) (last_set es l m)
-
 last_grown : (es : List Entry) (l : Entry) (p : Span) → grown (es ++ l ∷ []) p ≡ continued (Some l) p
 last_grown es l p = ap (λ o. continued o p) (ap (slice_get (es ++ l ∷ [])) (last_place es l) ∙ last_is es l)
 
@@ -51,7 +48,7 @@ by_last es (resident l) p =
       is =
           ap (extended_by (es ++ resident l ∷ []) p) e
           ∙ ap (λ k. set (es ++ resident l ∷ []) k (resident (joined l p))) (last_place es (resident l))
-          ∙ last_set es (resident l) (resident (joined l p));
+          ∙ set-append_seam es (resident l) [] (resident (joined l p));
     }))
     (λ (f : joins l p ≡ false). inl (g ∙ ap (option_map resident) (cond-false (joins l p) (Some (joined l p)) None f)))
     (cases_Bool (joins l p))
