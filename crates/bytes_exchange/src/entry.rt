@@ -1,14 +1,15 @@
 use fixed::Fixed;
 use pieces::Piece;
 
-// An entry of a queue: bytes resident in the region, or the handle of a chunk that a store keeps.
+// An entry of a queue: bytes resident in the region, or the handle of a chunk that a store keeps. A function that uses one
+// again takes it by `&`: it may hold a piece, whose Model keeps the check from copying it as an argument.
 #[derive(Clone, Copy, Debug, PartialEq, Eq, Hash)]
 pub enum QueueEntry {
     Resident(Piece),
     Paged(u64),
 }
 
-// A queue of up to 12 entries, front first.
+// A queue of up to 12 entries, front first. No Model, since the table that it is has none.
 #[derive(Clone, Copy)]
 pub struct MergeQueue {
     pub entries: Fixed<QueueEntry, 12>,

@@ -1,5 +1,5 @@
 -- A slab that sees to it that some bytes may be written. Assumes nothing.
-use Rattle.std.specs.Prelude.{◌≡◌, ℕ, ◌+◌, ◌-◌, ◌*◌, ◌<◌, ◌≤◌, ◌⊎◌, List, length, Some, None, Option, Result, MatchResult}
+use Rattle.std.specs.Prelude.{◌≡◌, ℕ, ◌+◌, ◌-◌, ◌*◌, ◌<◌, ◌≤◌, ◌⊎◌, List, Some, None, Option, Result, MatchResult}
 use Rattle.std.proofs.Math.Seq.{paste}
 use Rattle.answers.specs.declared.Fault.{Fault}
 use Rattle.answers.specs.Faults.{number_of}
