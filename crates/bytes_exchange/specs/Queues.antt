@@ -21,10 +21,6 @@ abbrev pub resident_len : QueueEntry → ℕ
 resident_len (Resident p) = p.len
 resident_len (Paged h) = 0
 
-abbrev pub resident_at : Option QueueEntry → ℕ
-resident_at None = 0
-resident_at (Some e) = resident_len e
-
 -- what the last entry becomes, where it is resident and the piece continues it
 abbrev pub continued : Option QueueEntry → Span → Option QueueEntry
 continued None p = None

@@ -9,7 +9,7 @@ pub enum QueueEntry {
     Paged(u64),
 }
 
-// A queue of up to 12 entries, front first. No Model, since the table that it is has none.
+// A queue of up to 12 entries, front first. No Model, since the table in it has none.
 #[derive(Clone, Copy)]
 pub struct MergeQueue {
     pub entries: Fixed<QueueEntry, 12>,

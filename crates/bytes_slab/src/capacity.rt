@@ -15,7 +15,7 @@ impl BytesSlab {
     ) -> Result<(), Fault>
         ensures after { Ensures capacity free.now self.old region.old result self.new region.new }
     {
-        if !self.shape.holds(region) || free.leases.counts.len() != self.shape.buffers {
+        if !self.shape.holds(region) || free.leases.buffers() != self.shape.buffers {
             return Err(Fault::RegionLength);
         }
         let size = self.shape.size;

@@ -25,7 +25,7 @@ impl FreeBuffers<'_> {
         ensures answer { result ≡ find (is_free self.now) (behind own (buffers self.now)) }
         ensures known { IfSome result (λ buffer. buffer < buffers self.now) }
     {
-        let buffers = self.leases.counts.len();
+        let buffers = self.leases.buffers();
         let above = own.saturating_add(1)..buffers;
         let below = 0..own.min(buffers);
         above.chain(below).find(|&buffer| self.contains(buffer))
@@ -36,14 +36,14 @@ impl FreeBuffers<'_> {
         ensures answer { result ≡ find (is_free self.now) (range_with_len 0 (buffers self.now)) }
         ensures known { IfSome result (λ buffer. buffer < buffers self.now) }
     {
-        (0..self.leases.counts.len()).find(|&buffer| self.contains(buffer))
+        (0..self.leases.buffers()).find(|&buffer| self.contains(buffer))
     }
 
     // How many they are.
     pub fn count(&self) -> usize
         ensures answer { result ≡ count_by (is_free self.now) (range_with_len 0 (buffers self.now)) }
     {
-        (0..self.leases.counts.len())
+        (0..self.leases.buffers())
             .filter(|&buffer| self.contains(buffer))
             .count()
     }

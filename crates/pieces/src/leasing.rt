@@ -1,4 +1,4 @@
-ghost use Rattle.std.specs.Prelude.{◌≡◌, replicate, None, MatchOption};
+ghost use Rattle.std.specs.Prelude.{◌≡◌, length, replicate, None, MatchOption};
 ghost use Rattle.std.specs.List.{slice_get};
 ghost use Rattle.pieces.specs.Counts.{counts, more, less, counted};
 
@@ -15,6 +15,13 @@ impl Leases {
         Leases {
             counts: Fixed::filled(0, shape.buffers),
         }
+    }
+
+    // How many buffers the region has.
+    pub fn buffers(&self) -> usize
+        ensures answer { result ≡ length (counts self.now) }
+    {
+        self.counts.len()
     }
 
     // How many pieces a buffer has, if it is one of the region's.

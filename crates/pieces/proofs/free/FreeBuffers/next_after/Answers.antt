@@ -11,11 +11,11 @@ returns-clause-answer c =
     let p = is_free c.args.self.now in
     let n = buffers c.args.self.now in
     let s = c.saturating_add.result in
-    let m = c.len-buffers.result in
+    let m = c.buffers-buffers.result in
     let k = c.min.result in
     let found = first_from_find _ _ _ (λ x. p x ≡ true) (λ x. p x ≡ false) c.find.ensures.ran
     (YieldsList-from_chain (YieldsList-from_range s m (m - s) (cc) refl) (YieldsList-from_range 0 k k (cc) (omega arith)) (cc) (cc))
     (λ x q e. search rules) (λ x q e. search rules) in
-    let above = ap₂ (λ a b. range_with_len a (b - a)) c.saturating_add.ensures c.len-buffers.ensures.answer ∙ range_capped (c.args.own + 1) n 18446744073709551615 (omega arith) in
+    let above = ap₂ (λ a b. range_with_len a (b - a)) c.saturating_add.ensures c.buffers-buffers.ensures.answer ∙ range_capped (c.args.own + 1) n 18446744073709551615 (omega arith) in
     let below : k ≡ min c.args.own n = omega arith in
     first_found p _ _ found ∙ ap₂ (λ xs j. find p (xs ++ range_with_len 0 j)) above below
