@@ -1,24 +1,21 @@
-ghost use Rattle.pieces.specs.Counts.{counts};
-ghost use Rattle.bytes_slab.specs.Slabs.{seen};
 ghost use Rattle.bytes_slab.specs.Capacity.{Ensures};
 
 use crate::slab::BytesSlab;
 use answers::Fault;
-use pieces::Leases;
+use pieces::FreeBuffers;
 
 impl BytesSlab {
     // Sees to it that `capacity` bytes may be written. A slab that lacks them takes the next free buffer in cyclic order
-    // after its own, and moves its valid bytes to the front. `working` has the slabs' working buffers.
+    // after its own, and moves its valid bytes to the front.
     pub fn ensure_capacity(
         &mut self,
         capacity: usize,
-        leases: &Leases,
-        working: &[Option<usize>],
+        free: &FreeBuffers<'_>,
         region: &mut [u8],
     ) -> Result<(), Fault>
-        ensures after { Ensures capacity (counts leases.now) working.now (seen self.old) region.old result (seen self.new) region.new }
+        ensures after { Ensures capacity free.now self.old region.old result self.new region.new }
     {
-        if !self.shape.holds(region) || leases.counts.len() != self.shape.buffers {
+        if !self.shape.holds(region) || free.leases.buffers() != self.shape.buffers {
             return Err(Fault::RegionLength);
         }
         let size = self.shape.size;
@@ -29,9 +26,7 @@ impl BytesSlab {
         if capacity > size - valid {
             return Err(Fault::NoFreeBuffer);
         }
-        let Some(buffer) = leases.next_free(self.buffer, working) else {
-            return Err(Fault::NoFreeBuffer);
-        };
+        let buffer = free.next_after(self.buffer).ok_or(Fault::NoFreeBuffer)?;
         let old = self.buffer * size;
         region.copy_within(old + self.begin..old + self.end, buffer * size);
         self.buffer = buffer;

@@ -1,12 +1,11 @@
 ghost use Rattle.std.specs.Prelude.{◌≡◌, ◌+◌, ◌*◌};
-ghost use Rattle.std.specs.Option.{option_map};
-ghost use Rattle.pieces.specs.Pieces.{span};
-ghost use Rattle.bytes_slab.specs.Slabs.{seen, Begins, Shows, room, grown, extracted, shortened};
+ghost use Rattle.bytes_slab.specs.Slabs.{Begins, Shows, room, grown, extracted, shortened};
 
 use crate::slab::BytesSlab;
 use answers::Fault;
 use pieces::Piece;
 use shape::Shape;
+use std::ops::Range;
 
 impl BytesSlab {
     // A slab with no valid byte, at the front of a buffer.
@@ -26,7 +25,7 @@ impl BytesSlab {
 
     // The valid bytes.
     pub fn valid<'a>(&self, region: &'a [u8]) -> Result<&'a [u8], Fault>
-        ensures answer { Shows (seen self.now) region.now result }
+        ensures answer { Shows self.now region.now result }
     {
         if !self.shape.holds(region) {
             return Err(Fault::RegionLength);
@@ -35,19 +34,19 @@ impl BytesSlab {
         Ok(&region[at + self.begin..at + self.end])
     }
 
-    // The places of the region that may be written: where they begin, and where they end.
-    pub fn empty(&self) -> (usize, usize)
-        ensures begin { result.0 ≡ self.now.buffer * self.now.shape.size + self.now.end }
-        ensures end { result.1 ≡ self.now.buffer * self.now.shape.size + self.now.shape.size }
+    // The places of the region that may be written.
+    pub fn empty(&self) -> Range<usize>
+        ensures begin { result.start ≡ self.now.buffer * self.now.shape.size + self.now.end }
+        ensures end { result.end ≡ self.now.buffer * self.now.shape.size + self.now.shape.size }
     {
         let at = self.buffer * self.shape.size;
-        (at + self.end, at + self.shape.size)
+        at + self.end..at + self.shape.size
     }
 
     // Makes the next `count` bytes valid; false, and nothing changes, where the buffer has not so many.
     pub fn make_valid(&mut self, count: usize) -> bool
-        ensures answer { result ≡ room (seen self.old) count }
-        ensures after { seen self.new ≡ grown (seen self.old) count }
+        ensures answer { result ≡ room self.old count }
+        ensures after { self.new ≡ grown self.old count }
     {
         if self.shape.size - self.end < count {
             return false;
@@ -58,10 +57,10 @@ impl BytesSlab {
 
     // Takes the first `count` valid bytes off as a piece; none where there are not so many, or the count is 0.
     pub fn extract(&mut self, count: usize) -> Option<Piece>
-        ensures answer { option_map span result ≡ extracted (seen self.old) count }
-        ensures after { seen self.new ≡ shortened (seen self.old) count }
+        ensures answer { result ≡ extracted self.old count }
+        ensures after { self.new ≡ shortened self.old count }
     {
-        if count < 1 || self.end - self.begin < count {
+        if !(1..=self.end - self.begin).contains(&count) {
             return None;
         }
         let piece = Piece {

@@ -1,4 +1,4 @@
-ghost use Rattle.std.specs.Prelude.{◌≡◌, ◌↔◌, ◌==◌, ◌-◌, ◌<◌, min, [], length, replicate, slice_set, IsNone, IfSome};
+ghost use Rattle.std.specs.Prelude.{◌≡◌, ◌↔◌, ◌==◌, ◌-◌, ◌<◌, ◌≤◌, min, [], length, replicate, slice_set, IsNone, IfSome};
 ghost use Rattle.std.specs.List.{slice_get, remove};
 ghost use Rattle.fixed.specs.Held.{held, Pushes};
 
@@ -44,6 +44,7 @@ impl<T: Copy, const N: usize> Fixed<T, N> {
     // The values, front first.
     pub fn as_slice(&self) -> &[T]
         ensures answer { result.now ≡ held self.now }
+        ensures most { length result.now ≤ N }
     {
         &self.items[..self.len]
     }

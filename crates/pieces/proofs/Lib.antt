@@ -1,3 +1,2 @@
-mod Firsts
 pub mod Found
 pub mod Regions

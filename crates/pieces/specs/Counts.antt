@@ -1,6 +1,7 @@
 -- Lease counts, and which buffers are free. Assumes nothing.
-use Rattle.std.specs.Prelude.{◌≡◌, ℕ, zero, suc, ◌+◌, ◌-◌, ◌<◌, min, Bool, false, cond, not, ◌&&◌, ◌||◌, List, [], ◌∷◌, ◌++◌, length, Some, None, count_by, Option, ◌==◌, nat_eq, nat_lt, slice_index, slice_set}
-use Rattle.std.specs.List.{slice_get}
+use Rattle.std.specs.Prelude.{◌≡◌, ℕ, ◌+◌, ◌-◌, ◌<◌, min, Bool, cond, not, ◌&&◌, List, ◌++◌, length, Some, None, count_by, Option, nat_eq, nat_lt, slice_index, slice_set}
+use Rattle.std.specs.List.{slice_get, list_any, range_with_len}
+use Rattle.std.specs.Option.{option_eq}
 use Rattle.fixed.specs.Held.{held}
 use Rattle.pieces.specs.declared.leases.Leases.{Leases}
 use Rattle.pieces.specs.Pieces.{Span}
@@ -31,33 +32,17 @@ pieces_in b ps = count_by (λ p. nat_eq p.buffer b) ps
 abbrev pub Counted : List ℕ → List Span → Type 0
 Counted cs ps = (b : ℕ) → b < length cs → slice_index cs b ≡ pieces_in b ps
 
--- b is the working buffer of a slab, where there is one, and of one of some slabs
-abbrev pub is : ℕ → Option ℕ → Bool
-is b None = false
-is b (Some w) = w == b
-
+-- b is the working buffer of one of some slabs, of those that there are
 abbrev pub among : ℕ → List (Option ℕ) → Bool
-among b [] = false
-among b (w ∷ ws) = is b w || among b ws
+among b ws = list_any (λ w. option_eq nat_eq w (Some b)) ws
 
 -- a free buffer: one of the region's, with no piece, and no slab's working buffer
 abbrev pub unleased : Option ℕ → Bool
-unleased None = false
-unleased (Some n) = n == 0
+unleased count = option_eq nat_eq count (Some 0)
 
 abbrev pub free : List ℕ → List (Option ℕ) → ℕ → Bool
 free cs ws b = unleased (slice_get cs b) && not (among b ws)
 
--- n numbers from a on
-abbrev pub from : ℕ → ℕ → List ℕ
-from a zero = []
-from a (suc n) = a ∷ from (a + 1) n
-
 -- the other numbers below n in cyclic order, from the one behind b on
 abbrev pub behind : ℕ → ℕ → List ℕ
-behind b n = from (b + 1) (n - (b + 1)) ++ from 0 (min b n)
-
--- the first that passes
-abbrev pub first : (ℕ → Bool) → List ℕ → Option ℕ
-first p [] = None
-first p (x ∷ xs) = cond (p x) (Some x) (first p xs)
+behind b n = range_with_len (b + 1) (n - (b + 1)) ++ range_with_len 0 (min b n)

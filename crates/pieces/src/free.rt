@@ -1,81 +1,50 @@
-ghost use Rattle.std.specs.Prelude.{◌≡◌, ◌-◌, length, count_by};
-ghost use Rattle.pieces.specs.Counts.{counts, is, among, free, from, behind, first};
+ghost use Rattle.std.specs.Prelude.{◌≡◌, ◌<◌, count_by, IfSome};
+ghost use Rattle.std.specs.List.{find, range_with_len};
+ghost use Rattle.pieces.specs.Counts.{behind};
+ghost use Rattle.pieces.specs.Free.{buffers, is_free};
 
 use crate::leases::Leases;
 
-// Whether a buffer is the working one of a slab, where there is a slab.
-fn works(slab: Option<usize>, buffer: usize) -> bool
-    ensures answer { result ≡ is buffer slab }
-{
-    match slab {
-        Some(working) => working == buffer,
-        None => false,
-    }
+// The free buffers of a region: those that have no piece, and are no slab's working buffer.
+#[derive(Clone, Copy)]
+pub struct FreeBuffers<'a> {
+    pub leases: &'a Leases,
+    pub working: &'a [Option<usize>],
 }
 
-// Whether a buffer is the working one of some slab.
-fn is_working(working: &[Option<usize>], buffer: usize) -> bool
-    ensures answer { result ≡ among buffer working.now }
-{
-    for slab in working {
-        if works(*slab, buffer) {
-            return true;
-        }
-    }
-    false
-}
-
-impl Leases {
-    // Whether a buffer has no piece, and is no slab's working buffer.
-    pub fn is_free(&self, buffer: usize, working: &[Option<usize>]) -> bool
-        ensures answer { result ≡ free (counts self.now) working.now buffer }
+impl FreeBuffers<'_> {
+    // Whether a buffer is one of them.
+    pub fn contains(&self, buffer: usize) -> bool
+        ensures answer { result ≡ is_free self.now buffer }
     {
-        let Some(count) = self.counts.get(buffer) else {
-            return false;
-        };
-        count == 0 && !is_working(working, buffer)
+        self.leases.count(buffer) == Some(0) && !self.working.contains(&Some(buffer))
     }
 
-    // The first free buffer from `lower` to `upper - 1`.
-    fn first_free(&self, lower: usize, upper: usize, working: &[Option<usize>]) -> Option<usize>
-        ensures answer { result ≡ first (free (counts self.now) working.now) (from lower (upper - lower)) }
+    // The next of them in cyclic order after one.
+    pub fn next_after(&self, own: usize) -> Option<usize>
+        ensures answer { result ≡ find (is_free self.now) (behind own (buffers self.now)) }
+        ensures known { IfSome result (λ buffer. buffer < buffers self.now) }
     {
-        for b in lower..upper {
-            if self.is_free(b, working) {
-                return Some(b);
-            }
-        }
-        None
+        let buffers = self.leases.buffers();
+        let above = own.saturating_add(1)..buffers;
+        let below = 0..own.min(buffers);
+        above.chain(below).find(|&buffer| self.contains(buffer))
     }
 
-    // The next free buffer in cyclic order after one.
-    pub fn next_free(&self, own: usize, working: &[Option<usize>]) -> Option<usize>
-        ensures answer { result ≡ first (free (counts self.now) working.now) (behind own (length (counts self.now))) }
+    // The lowest of them.
+    pub fn lowest(&self) -> Option<usize>
+        ensures answer { result ≡ find (is_free self.now) (range_with_len 0 (buffers self.now)) }
+        ensures known { IfSome result (λ buffer. buffer < buffers self.now) }
     {
-        let buffers = self.counts.len();
-        match self.first_free(own.saturating_add(1), buffers, working) {
-            Some(b) => Some(b),
-            None => self.first_free(0, own.min(buffers), working),
-        }
+        (0..self.leases.buffers()).find(|&buffer| self.contains(buffer))
     }
 
-    // The lowest free buffer.
-    pub fn lowest_free(&self, working: &[Option<usize>]) -> Option<usize>
-        ensures answer { result ≡ first (free (counts self.now) working.now) (from 0 (length (counts self.now))) }
+    // How many they are.
+    pub fn count(&self) -> usize
+        ensures answer { result ≡ count_by (is_free self.now) (range_with_len 0 (buffers self.now)) }
     {
-        self.first_free(0, self.counts.len(), working)
-    }
-
-    // How many buffers are free.
-    pub fn free_buffers(&self, working: &[Option<usize>]) -> usize
-        ensures answer { result ≡ count_by (free (counts self.now) working.now) (from 0 (length (counts self.now))) }
-    {
-        let mut n = 0;
-        for b in 0..self.counts.len() {
-            if self.is_free(b, working) {
-                n += 1;
-            }
-        }
-        n
+        (0..self.leases.buffers())
+            .filter(|&buffer| self.contains(buffer))
+            .count()
     }
 }

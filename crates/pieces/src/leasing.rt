@@ -1,4 +1,4 @@
-ghost use Rattle.std.specs.Prelude.{◌≡◌, replicate};
+ghost use Rattle.std.specs.Prelude.{◌≡◌, length, replicate, None, MatchOption};
 ghost use Rattle.std.specs.List.{slice_get};
 ghost use Rattle.pieces.specs.Counts.{counts, more, less, counted};
 
@@ -17,11 +17,29 @@ impl Leases {
         }
     }
 
+    // How many buffers the region has.
+    pub fn buffers(&self) -> usize
+        ensures answer { result ≡ length (counts self.now) }
+    {
+        self.counts.len()
+    }
+
     // How many pieces a buffer has, if it is one of the region's.
     pub fn count(&self, buffer: usize) -> Option<u16>
         ensures answer { result ≡ slice_get (counts self.now) buffer }
     {
         self.counts.get(buffer)
+    }
+
+    // Another count for a piece's buffer, where the buffer has one and it can change so; answers it then.
+    fn recount<F: FnOnce(u16) -> Option<u16>>(&mut self, piece: Piece, change: F) -> Option<u16>
+        requires { F.IsAlwaysCallable change }
+        ensures answer { MatchOption (slice_get (counts self.old) piece.buffer) (result ≡ None) (λ n. F.post change n result) }
+        ensures after { counts self.new ≡ counted (counts self.old) piece.buffer result }
+    {
+        let count = self.counts.get(piece.buffer).and_then(change)?;
+        let _ = self.counts.replace(piece.buffer, count);
+        Some(count)
     }
 
     // A piece more, by cutting or copying; answers its buffer's count then. None where the region has no such
@@ -30,10 +48,7 @@ impl Leases {
         ensures answer { result ≡ more (slice_get (counts self.old) piece.buffer) }
         ensures after { counts self.new ≡ counted (counts self.old) piece.buffer result }
     {
-        let count = self.counts.get(piece.buffer)?;
-        let raised = count.checked_add(1)?;
-        let _ = self.counts.replace(piece.buffer, raised);
-        Some(raised)
+        self.recount(piece, |count| count.checked_add(1))
     }
 
     // A piece less, by merging or giving back; answers its buffer's count then. None where the buffer has no
@@ -42,9 +57,6 @@ impl Leases {
         ensures answer { result ≡ less (slice_get (counts self.old) piece.buffer) }
         ensures after { counts self.new ≡ counted (counts self.old) piece.buffer result }
     {
-        let count = self.counts.get(piece.buffer)?;
-        let lowered = count.checked_sub(1)?;
-        let _ = self.counts.replace(piece.buffer, lowered);
-        Some(lowered)
+        self.recount(piece, |count| count.checked_sub(1))
     }
 }

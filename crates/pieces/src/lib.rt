@@ -7,5 +7,6 @@ mod leases;
 mod leasing;
 mod piece;
 
+pub use free::FreeBuffers;
 pub use leases::Leases;
 pub use piece::Piece;

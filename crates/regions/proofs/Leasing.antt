@@ -2,9 +2,9 @@
 use Rattle.std.proofs.Common.{◌≡◌, ℕ, ◌+◌, ◌-◌, ◌<◌, ◌≤◌, Bool, true, false, cond, not, eqb, ltb, List, [], ◌∷◌, ◌++◌, length, get_or, set, replicate, Some, None, Option, sym, refl, ap, ◌∙◌, ⊎_elim, arith}
 use Rattle.std.specs.List.{slice_get}
 use Rattle.std.proofs.lemmas.List.{get_or-replicate, get_or-set_other, get_or-set_same, length-replicate, length-set}
-use Rattle.std.proofs.lemmas.Option.{slice_get-get_or, slice_get_past}
+use Rattle.std.proofs.lemmas.Option.{cond_some, none-some, slice_get-get_or, slice_get_past}
 use Rattle.std.proofs.lemmas.List.Sums.{sum_by-append, sum_by-cons}
-use Rattle.std.proofs.lemmas.Bool.{and_parts, cases_Bool, cases_eq, cases_lt, cond-false, cond-true, eq-eqb, eqb-true, lt-ltb, ltb-true, ne_eqb, not-true}
+use Rattle.std.proofs.lemmas.Bool.{and_parts, cases_eq, cases_lt, cond-false, cond-true, eq-eqb, eqb-true, lt-ltb, ltb-true, ne_eqb, not-true}
 use Rattle.pieces.specs.Pieces.{Span, front, joined, joins, rest}
 use Rattle.pieces.specs.Counts.{Counted, among, free, less, more, pieces_in, unleased}
 use Rattle.pieces.proofs.Found.{known}
@@ -43,33 +43,29 @@ none n b lt = let len : length (replicate {A = ℕ} n 0) ≡ n = length-replicat
 
 -- a count that rose or fell is that of one of the buffers
 some_more : (g n : ℕ) → more (Some g) ≡ Some n → n ≡ g + 1
-some_more g n e = ⊎_elim (λ t. let h = sym (cond-true (ltb g 65535) (Some (g + 1)) None t) ∙ e in let k : g + 1 ≡ n = cc in sym k) (λ t. let h = sym (cond-false (ltb g 65535) (Some (g + 1)) None t) ∙ e in absurd (let z : ◌≡◌ {A = ℕ} 0 1 = cc in omega arith)) (cases_Bool (ltb g 65535))
+some_more g n e = sym (cond_some (ltb g 65535) (g + 1) n e).1
 
 some_less : (g n : ℕ) → less (Some g) ≡ Some n → n + 1 ≡ g
-some_less g n e = ⊎_elim (λ t. let h = sym (cond-true (ltb 0 g) (Some (g - 1)) None t) ∙ e in let k : g - 1 ≡ n = cc in let l = ltb-true 0 g t in omega arith) (λ t. let h = sym (cond-false (ltb 0 g) (Some (g - 1)) None t) ∙ e in absurd (let z : ◌≡◌ {A = ℕ} 0 1 = cc in omega arith)) (cases_Bool (ltb 0 g))
+some_less g n e = let h = cond_some (ltb 0 g) (g - 1) n e in omega (arith, ltb-true 0 g h.0, h.1)
 
 rose : (cs : List ℕ) (b n : ℕ) → more (slice_get cs b) ≡ Some n → (b < length cs) × (n ≡ get_or cs b 0 + 1)
 rose cs b n e =
     ⊎_elim
     (λ (lt : b < length cs). (lt, some_more (get_or cs b 0) n (ap more (sym (slice_get-get_or cs b 0 lt)) ∙ e)))
-    (λ (le : length cs ≤ b). let h = sym (ap more (slice_get_past cs b le)) ∙ e in absurd (let z : ◌≡◌ {A = ℕ} 0 1 = cc in omega arith))
+    (λ (le : length cs ≤ b). absurd (none-some n (sym (ap more (slice_get_past cs b le)) ∙ e)))
     (cases_lt b (length cs))
 
 fell : (cs : List ℕ) (b n : ℕ) → less (slice_get cs b) ≡ Some n → (b < length cs) × (n + 1 ≡ get_or cs b 0)
 fell cs b n e =
     ⊎_elim
     (λ (lt : b < length cs). (lt, some_less (get_or cs b 0) n (ap less (sym (slice_get-get_or cs b 0 lt)) ∙ e)))
-    (λ (le : length cs ≤ b). let h = sym (ap less (slice_get_past cs b le)) ∙ e in absurd (let z : ◌≡◌ {A = ℕ} 0 1 = cc in omega arith))
+    (λ (le : length cs ≤ b). absurd (none-some n (sym (ap less (slice_get_past cs b le)) ∙ e)))
     (cases_lt b (length cs))
 
 -- a part of a piece lies where the cut says
 front_in : (t : Bool) (x f : Span) → cond t None (Some x) ≡ Some f → x.buffer ≡ f.buffer
-front_in true x f e = absurd (let z : ◌≡◌ {A = ℕ} 0 1 = cc in omega arith)
+front_in true x f e = cc e
 front_in false x f e = let h : x ≡ f = cc in ap (λ s. s.buffer) h
-
-rest_in : (t : Bool) (x r : Span) → cond t (Some x) None ≡ Some r → x.buffer ≡ r.buffer
-rest_in true x r e = let h : x ≡ r = cc in ap (λ s. s.buffer) h
-rest_in false x r e = absurd (let z : ◌≡◌ {A = ℕ} 0 1 = cc in omega arith)
 
 module _ (cs : List ℕ) (ps qs : List Span) (p : Span) where
   pub add : (n : ℕ) → Counted cs (ps ++ qs) → more (slice_get cs p.buffer) ≡ Some n → Counted (set cs p.buffer n) (ps ++ p ∷ qs)
@@ -125,7 +121,7 @@ module _ (cs : List ℕ) (ps qs : List Span) (p : Span) where
 
   pub cut : (f r : Span) (k n : ℕ) → front k p ≡ Some f → rest k p ≡ Some r → Counted cs (ps ++ p ∷ qs) → more (slice_get cs p.buffer) ≡ Some n
       → Counted (set cs p.buffer n) (ps ++ f ∷ r ∷ qs)
-  cut f r k n ef er = cut_by f r n (sym (front_in (eqb k 0) _ f ef)) (sym (rest_in (ltb k p.len) _ r er))
+  cut f r k n ef er = cut_by f r n (sym (front_in (eqb k 0) _ f ef)) (sym (ap (λ s. s.buffer) (cond_some (ltb k p.len) _ r er).1))
 
 pub no_slab : (cs : List ℕ) (ws : List (Option ℕ)) (b : ℕ) → free cs ws b ≡ true → among b ws ≡ false
 no_slab cs ws b h = not-true (among b ws) (and_parts (unleased (slice_get cs b)) (not (among b ws)) h).1

@@ -1,8 +1,8 @@
 -- The bytes of pieces. Assumes nothing.
 use Rattle.std.proofs.Common.{◌≡◌, ℕ, ◌+◌, ◌-◌, ◌*◌, ◌<◌, ◌≤◌, min, true, eqb, ltb, ◌⊎◌, List, ◌++◌, length, take, drop, sym, refl, ap, ◌∙◌, ap₂, inl, inr, ⊎_elim, arith}
-use Rattle.std.proofs.Math.Seq.{paste}
+use Rattle.std.proofs.Math.Seq.{paste, take-add}
 use Rattle.std.proofs.lemmas.List.Edits.{drop-paste, paste_all}
-use Rattle.std.proofs.lemmas.List.{append-nil, drop_at, drop-drop, drop-take, length-append, length-drop, length-take, length-take-le, take-append-drop, take-append-le, take_at, take-take}
+use Rattle.std.proofs.lemmas.List.{append-nil, drop_at, drop-drop, drop-take, length-append, length-drop, length-take, length-take-le, take-append-le, take_at, take-take}
 use Rattle.std.proofs.lemmas.Bool.{and_parts, cases_eq, cases_lt, cases_order, cond-false, cond-true, eq-eqb, eqb-true, le-ltb, lt-ltb, ne_eqb}
 use Rattle.pieces.specs.Pieces.{Span, Inside, bytes, front, joined, joins, rest}
 use Rattle.pieces.proofs.Regions.{in_region}
@@ -13,15 +13,9 @@ many size buffers region p len inside =
     let e = in_region size buffers p.buffer (p.start + p.len) inside.0 inside.2 in
     length-take-le p.len (drop (p.buffer * size + p.start) region) (simp length-drop (omega arith))
 
--- the first m + n of a list
-take_both : (m n : ℕ) (xs : List ℕ) → take (m + n) xs ≡ take m xs ++ take n (drop m xs)
-take_both m n xs =
-    sym (take-append-drop m (take (m + n) xs))
-    ∙ ap₂ ◌++◌ (take-take m (m + n) xs (omega arith)) (drop-take m n xs)
-
 -- those from a place on, in two parts
 parted : (m n a b : ℕ) (xs : List ℕ) → a + m ≡ b → take (m + n) (drop a xs) ≡ take m (drop a xs) ++ take n (drop b xs)
-parted m n a b xs e = take_both m n (drop a xs) ∙ ap (λ ys. take m (drop a xs) ++ take n ys) (drop-drop m a xs ∙ ap (λ k. drop k xs) e)
+parted m n a b xs e = take-add m n (drop a xs) ∙ ap (λ ys. take m (drop a xs) ++ take n ys) (drop-drop m a xs ∙ ap (λ k. drop k xs) e)
 
 pub merge : (size : ℕ) (region : List ℕ) (p q : Span) → joins p q ≡ true → bytes size region (joined p q) ≡ bytes size region p ++ bytes size region q
 merge size region p q h =

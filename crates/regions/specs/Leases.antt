@@ -1,8 +1,8 @@
 -- Lease counts that are the numbers of pieces, and free buffers. Assumes nothing.
 use Rattle.std.specs.Prelude.{◌≡◌, ℕ, ◌<◌, ◌≤◌, Bool, true, false, List, [], ◌∷◌, ◌++◌, length, replicate, Some, None, count_by, Option, ◌≢◌, slice_set}
-use Rattle.std.specs.List.{slice_get}
+use Rattle.std.specs.List.{find, range_with_len, slice_get}
 use Rattle.pieces.specs.Pieces.{Span, front, joined, joins, rest}
-use Rattle.pieces.specs.Counts.{Counted, among, behind, first, free, from, less, more, pieces_in}
+use Rattle.pieces.specs.Counts.{Counted, among, behind, free, less, more, pieces_in}
 
 pub record Leases : Type 0 where
   -- at first there is no piece
@@ -21,8 +21,8 @@ pub record Leases : Type 0 where
   pub no_piece : (cs : List ℕ) (ws : List (Option ℕ)) (ps : List Span) (b : ℕ) → Counted cs ps → free cs ws b ≡ true → pieces_in b ps ≡ 0
   pub no_slab : (cs : List ℕ) (ws : List (Option ℕ)) (b : ℕ) → free cs ws b ≡ true → among b ws ≡ false
   -- what is found passes; where nothing is found, no other number below n in cyclic order passes, nor any number below n from 0 on
-  pub found : (p : ℕ → Bool) (xs : List ℕ) (b : ℕ) → first p xs ≡ Some b → p b ≡ true
-  pub no_other : (p : ℕ → Bool) (own n b : ℕ) → first p (behind own n) ≡ None → b < n → (b ≢ own) → p b ≡ false
-  pub no_lower : (p : ℕ → Bool) (n b : ℕ) → first p (from 0 n) ≡ None → b < n → p b ≡ false
+  pub found : (p : ℕ → Bool) (xs : List ℕ) (b : ℕ) → find p xs ≡ Some b → p b ≡ true
+  pub no_other : (p : ℕ → Bool) (own n b : ℕ) → find p (behind own n) ≡ None → b < n → (b ≢ own) → p b ≡ false
+  pub no_lower : (p : ℕ → Bool) (n b : ℕ) → find p (range_with_len 0 n) ≡ None → b < n → p b ≡ false
   -- a number that does not pass, and one that does: some other passes
-  pub some_other : (p : ℕ → Bool) (own n : ℕ) → p own ≡ false → 1 ≤ count_by p (from 0 n) → first p (behind own n) ≢ None
+  pub some_other : (p : ℕ → Bool) (own n : ℕ) → p own ≡ false → 1 ≤ count_by p (range_with_len 0 n) → find p (behind own n) ≢ None

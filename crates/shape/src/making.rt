@@ -9,7 +9,7 @@ impl Shape {
     pub fn new(exponent: u32, buffers: usize) -> Result<Shape, Fault>
         ensures answer { ShapeOf exponent buffers result }
     {
-        if exponent < 7 || exponent > 12 || buffers < 2 || buffers > 16 {
+        if !(7..=12).contains(&exponent) || !(2..=16).contains(&buffers) {
             return Err(Fault::FigureOutOfBounds);
         }
         Ok(Shape {
@@ -32,7 +32,7 @@ impl Sources {
     pub fn new(shape: Shape, count: usize) -> Result<Sources, Fault>
         ensures answer { SourcesOf shape count result }
     {
-        if count < 1 || count > 4 || shape.buffers < count + 2 {
+        if !(1..=4).contains(&count) || shape.buffers < count + 2 {
             return Err(Fault::FigureOutOfBounds);
         }
         Ok(Sources { shape, count })
@@ -44,7 +44,7 @@ impl Targets {
     pub fn new(first: u64, count: u64) -> Result<Targets, Fault>
         ensures answer { TargetsOf first count result }
     {
-        if first > 65535 || count < 1 || count > 4 {
+        if first > 65535 || !(1..=4).contains(&count) {
             return Err(Fault::FigureOutOfBounds);
         }
         Ok(Targets { first, count })
@@ -61,9 +61,7 @@ impl Targets {
     pub fn place(&self, index: u64) -> Option<usize>
         ensures answer { result ≡ place self.now index }
     {
-        if index < self.first || index >= self.first + self.count {
-            return None;
-        }
-        Some((index - self.first) as usize)
+        let place = index.checked_sub(self.first)?;
+        (place < self.count).then_some(place as usize)
     }
 }

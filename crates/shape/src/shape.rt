@@ -1,7 +1,7 @@
 ghost use Rattle.std.specs.Prelude.{◌≡◌, ◌+◌, ◌^◌, ◌≤◌};
 
 // The shape of a region: some buffers, each of 2 to the power of the exponent bytes.
-#[derive(Clone, Copy)]
+#[derive(Clone, Copy, Debug, PartialEq, Eq, Hash)]
 pub struct Shape {
     pub exponent: u32,
     pub size: usize,
@@ -16,7 +16,7 @@ pub struct Shape {
 }
 
 // How many sources a near end has, and its region: two buffers at least are above those that the sources begin with.
-#[derive(Clone, Copy)]
+#[derive(Clone, Copy, Debug, PartialEq, Eq, Hash)]
 pub struct Sources {
     pub shape: Shape,
     pub count: usize,
@@ -26,7 +26,7 @@ pub struct Sources {
 }
 
 // How many targets there are, and the index of the first.
-#[derive(Clone, Copy)]
+#[derive(Clone, Copy, Debug, PartialEq, Eq, Hash)]
 pub struct Targets {
     pub first: u64,
     pub count: u64,
