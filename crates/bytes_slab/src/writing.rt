@@ -43,7 +43,8 @@ impl BytesSlab {
         at + self.end..at + self.shape.size
     }
 
-    // Makes the next `count` bytes valid; false, and nothing changes, where the buffer has not so many.
+    // Makes the next `count` bytes valid; false, and nothing changes, where the buffer has not so many. A `bool`, and no
+    // `Result`: no refusal has a number for it.
     pub fn make_valid(&mut self, count: usize) -> bool
         ensures answer { result ≡ room self.old count }
         ensures after { self.new ≡ grown self.old count }

@@ -9,10 +9,7 @@ impl<T: Copy, const N: usize> Fixed<T, N> {
     pub fn new(blank: T) -> Self
         ensures answer { held result ≡ [] }
     {
-        Fixed {
-            items: [blank; N],
-            len: 0,
-        }
+        Fixed::filled(blank, 0)
     }
 
     // One that holds a value `count` times, N times at most.

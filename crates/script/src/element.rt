@@ -45,7 +45,7 @@ impl From<Block> for Element {
 }
 
 // A type of elements.
-#[derive(Clone, Copy)]
+#[derive(Clone, Copy, Debug, PartialEq, Eq, Hash)]
 pub(crate) enum Kind {
     Ray,
     Tweak,
@@ -69,7 +69,7 @@ impl FromStr for Kind {
 }
 
 // How an element is spelled.
-#[derive(Clone, Copy)]
+#[derive(Clone, Copy, Debug, PartialEq, Eq, Hash)]
 pub(crate) enum Form {
     Ray,
     Thickness,

@@ -1,4 +1,4 @@
-// Does what a line asks for.
+// Does what a line asks for. The allocator is passed beside the words, as std passes it: a struct of both would say no more.
 ghost use Rattle.std.specs.Prelude.{◌≡◌, ◌≢◌, ◌≤◌, length, IfOk, IfSome, MatchResult};
 ghost use Rattle.std.specs.Result.{result_ok};
 ghost use Rattle.answers.specs.Faults.{number_of};
@@ -52,6 +52,7 @@ fn answered(verb: Verb, played: Result<Answer, Stop>) -> Result<Answer, AllocErr
     }
 }
 
+// The verbs are these alone, so one match over them is plainer than a closure for each: a missing one is refused.
 fn play_verb(heap: Global, verb: Verb, words: &mut Words<'_>) -> Result<Answer, Stop>
     ensures answer { IfSome (answer_to verb result) (PlaysVerb verb words.old) }
 {
@@ -78,7 +79,7 @@ fn play_element(heap: Global, words: &mut Words<'_>) -> Result<Answer, Stop>
     Ok(Answer::Element(element))
 }
 
-// The element of a kind that the octets mean.
+// The element of a kind that the octets mean. One match, as over the verbs.
 fn read_element(kind: Kind, octets: &[u8]) -> Result<Element, Fault>
     ensures answer { MatchResult result (λ e. ReadsElement kind octets.now (Answer.Element e)) (λ f. ReadsElement kind octets.now (Answer.Refused Verb.Element f)) }
 {

@@ -1,4 +1,4 @@
-// What the words of a message line spell.
+// What the words of a message line spell. The allocator is passed beside them, as std passes it.
 ghost use Rattle.std.specs.Prelude.{◌≡◌, ℕ, List, Some, None, vec_items, MatchOption, Float};
 ghost use Rattle.std.specs.Option.{option_map};
 ghost use Rattle.bytesable.specs.Rays.{ray_octets};
@@ -85,6 +85,7 @@ pub(crate) fn element(heap: Global, words: &mut Words<'_>) -> Result<Element, St
     element_as(heap, form, words)
 }
 
+// The element of a form. One match, as over the verbs.
 fn element_as(heap: Global, form: Form, words: &mut Words<'_>) -> Result<Element, Stop>
     ensures answer { Means (spelled_as form words.old) result }
 {

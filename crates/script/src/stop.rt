@@ -3,9 +3,11 @@ ghost use Rattle.std.specs.Prelude.{◌≡◌};
 
 use answers::Fault;
 use std::alloc::AllocError;
+use thiserror::Error;
 
 // A word that names nothing of the kind that is looked for.
-#[derive(Clone, Copy, Debug, PartialEq, Eq)]
+#[derive(Clone, Copy, Debug, PartialEq, Eq, Hash, Error)]
+#[error("the word names nothing that is known")]
 pub struct UnknownName;
 
 #[derive(Drop)]

@@ -7,7 +7,7 @@ use crate::stop::UnknownName;
 use std::fmt;
 use std::str::FromStr;
 
-#[derive(Clone, Copy)]
+#[derive(Clone, Copy, Debug, PartialEq, Eq, Hash)]
 pub enum Verb {
     Message,
     Read,

@@ -68,7 +68,11 @@ mod tests {
             let verb = word.parse::<Verb>()?;
             assert_eq!(rt; verb.to_string(heap)?.as_str(), word);
         }
-        assert!(rt; "reads".parse::<Verb>().is_err());
+        let unknown = "reads".parse::<Verb>().err().ok_or("no such verb")?;
+        assert_eq!(rt;
+            unknown.to_string(heap)?.as_str(),
+            "the word names nothing that is known"
+        );
         Ok(())
     }
 }

@@ -1,5 +1,5 @@
 -- What `parse` reads, in the words of `specs.Decimals`. Assumes nothing.
-use Rattle.std.proofs.Common.{◌≡◌, ℕ, ◌-◌, ◌^◌, ◌<◌, ◌≤◌, Bool, true, false, cond, ◌&&◌, leb, List, [], ◌∷◌, length, get_or, ℤ, pos, neg_ℤ, w64, Some, None, Ok, Err, Option, Result, sym, refl, ap, ◌∙◌, ⊎_elim, arith, rules}
+use Rattle.std.proofs.Common.{◌≡◌, ℕ, ◌-◌, ◌^◌, ◌<◌, ◌≤◌, Bool, true, false, cond, ◌&&◌, leb, List, [], ◌∷◌, length, get_or, ℤ, pos, neg_ℤ, w64, Some, None, Ok, Err, Option, Result, sym, refl, ap, ◌∙◌, subst, ⊎_elim, arith, rules}
 use Rattle.std.proofs.lemmas.Str.Parse.{IsNumeralModel, numerals_by_weight, parse_plain, parse_signed_minus, parse_signed_plain}
 use Rattle.std.proofs.lemmas.Bool.{and_parts, and_from, leb-true, ltb-true, le-leb, lt-leb, lt-ltb, cases_lt, cases_eq, cases_Bool, eq-eqb, ne_eqb, cond-true, cond-false}
 use Rattle.std.specs.Result.{OkIff, result_ok}
@@ -63,6 +63,18 @@ parsed_signed (c ∷ cs) r h plus = ⊎_elim
     (λ e. minus_signed c cs r e h ∙ sym (cond-true _ _ _ (eq-eqb c 45 e)))
     (λ other. plain_signed (c ∷ cs) r h plus other ∙ sym (cond-false _ _ _ (ne_eqb c 45 other)))
     (cases_eq c 45)
+
+-- a plus is no digit and no minus
+no_digit : (cs : List ℕ) → all_ascii_digits (43 ∷ cs) ≡ true → ⊥
+no_digit cs h = let z : ◌≡◌ {A = ℕ} 0 1 = cc in absurd (omega arith)
+
+pub plus_unsigned : (most : ℕ) (cs : List ℕ) → get_or cs 0 0 ≡ 43 → unsigned_of most cs ≡ None
+plus_unsigned most [] e = absurd (omega arith)
+plus_unsigned most (c ∷ cs) e = subst (λ x. unsigned_of most (x ∷ cs) ≡ None) (sym e) (unfit most (43 ∷ cs) (λ f. no_digit cs f.0))
+
+pub plus_signed : (cs : List ℕ) → get_or cs 0 0 ≡ 43 → signed_of cs ≡ None
+plus_signed [] e = absurd (omega arith)
+plus_signed (c ∷ cs) e = subst (λ x. signed_of (x ∷ cs) ≡ None) (sym e) (ap (option_map pos) (plus_unsigned (2 ^ 63 - 1) (43 ∷ cs) refl))
 
 then_cond : (b : Bool) (n : ℕ) → then_some b n ≡ cond b (Some n) None
 then_cond true n = refl
