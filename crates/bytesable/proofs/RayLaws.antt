@@ -13,6 +13,8 @@ pub length-ray_octets : (r : Ray) → length (ray_octets r) ≡ 29
 unfolding octets ray_octets
 length-ray_octets r = refl
 
+pub ruleset sizes = (length-ray_octets)
+
 -- a field's octets, with its length written out
 abbrev pub surface_of : Ray → List ℕ
 surface_of r = head 1 4 ++ octets 4 r.surface

@@ -9,6 +9,7 @@ use Rattle.answers.specs.declared.Fault.{Fault}
 use Rattle.octets.specs.Octets.{octets, part, Reads}
 use Rattle.octets.proofs.Parts.{cut}
 use Rattle.bytesable.specs.Fields.{head}
+use Rattle.octets.proofs.Spelling.{length-octets}
 use Rattle.bytesable.specs.Tweaks.{double, tweak_octets}
 use Rattle.bytesable.specs.declared.tweak.Tweak.{Tweak}
 use Rattle.bytesable.specs.declared.tweak.Tweak.TheVariants.{Thickness, Tilt, Index}
@@ -33,6 +34,8 @@ length-tweak_octets (Index x) = refl
 pub length-single : (t : Tweak) → ((x : Float) × (t ≡ Thickness x)) ⊎ ((x : Float) × (t ≡ Index x)) → 11 ≡ length (tweak_octets t)
 length-single t (inl p) = sym (length-tweak_octets t ∙ ap size_of p.1)
 length-single t (inr p) = sym (length-tweak_octets t ∙ ap size_of p.1)
+
+pub ruleset sizes = (length-tweak_octets, length-single, length-octets)
 
 first_octet : (t : Tweak) → get_or (tweak_octets t) 0 0 ≡ tag_of t
 unfolding octets tweak_octets

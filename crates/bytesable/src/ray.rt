@@ -66,10 +66,12 @@ fn same_ray(a: Ray, b: Ray) -> bool
 impl Bytesable for Ray {
     ghost bytes = { ray_octets };
 
+    #[tactic(auto, using(crate::proofs::RayLaws::sizes))]
     fn length_in_bytes(&self) -> usize {
         Ray::BYTES
     }
 
+    #[tactic(auto, using(crate::proofs::RayLaws::sizes))]
     fn into_bytes(&self, out: &mut [u8]) -> Result<(), Fault> {
         if out.len() != Ray::BYTES {
             return Err(Fault::Mismatched);

@@ -83,6 +83,7 @@ fn same_pattern(a: f64, b: f64) -> bool
 }
 
 // Fills `out` with a tweak of one float.
+#[tactic(auto, using(crate::proofs::TweakLaws::sizes))]
 fn fill_single(out: &mut [u8], field: Field, x: f64) -> Result<(), Fault>
     requires { field.at ≡ 0 }
     ensures { Fills (head field.tag field.size ++ double x) out.old result out.new }
@@ -94,6 +95,7 @@ fn fill_single(out: &mut [u8], field: Field, x: f64) -> Result<(), Fault>
 }
 
 // Fills `out` with a tweak of two.
+#[tactic(auto, using(crate::proofs::TweakLaws::sizes))]
 fn fill_tilt(out: &mut [u8], first: f64, second: f64) -> Result<(), Fault>
     ensures { Fills (tweak_octets (Tweak.Tilt first second)) out.old result out.new }
 {
@@ -107,6 +109,7 @@ fn fill_tilt(out: &mut [u8], first: f64, second: f64) -> Result<(), Fault>
 impl Bytesable for Tweak {
     ghost bytes = { tweak_octets };
 
+    #[tactic(auto, using(crate::proofs::TweakLaws::sizes))]
     fn length_in_bytes(&self) -> usize {
         match self {
             Tweak::Thickness(_) | Tweak::Index(_) => SINGLE,

@@ -7,6 +7,8 @@ use Rattle.networking.specs.declared.header.MessageHeader.{MessageHeader}
 use Rattle.networking.proofs.Framing.{length-octets_of}
 use Rattle.framing.specs.Messages.{sized, message_of, Back}
 
+pub ruleset lengths = (length-octets_of)
+
 -- a header whose length is the payload's, and the payload behind it, are read back
 pub joined : {V : Type 0} (h : MessageHeader) (os : List ℕ) (n : ℕ) (front before : List ℕ) (r : Result V Fault) (after : List ℕ)
     → n ≡ length os → front ≡ octets_of (sized h n) → ((rest : List ℕ) → n ≤ length rest → read_of (front ++ rest) ≡ Some (sized h n))

@@ -8,6 +8,7 @@ use bytesable::Bytesable;
 use networking::MessageHeader;
 
 // Fills `out` with the header, its length set to the element's, and then the element.
+#[tactic(auto, using(crate::proofs::Joining::lengths))]
 pub fn write_message<T: Bytesable>(
     header: &MessageHeader,
     element: &T,

@@ -3,13 +3,16 @@ use Rattle.std.proofs.Common.{◌≡◌, ℕ, ◌+◌, ◌<◌, ◌≤◌, true,
 use Rattle.std.proofs.lemmas.Bool.{le-leb, lt-leb, and_from}
 use Rattle.octets.specs.Octets.{octets, part}
 use Rattle.octets.proofs.Parts.{cut, octets_fit, short}
-use Rattle.octets.proofs.Spelling.{value_back}
+use Rattle.octets.proofs.Spelling.{length-octets, value_back}
 use Rattle.networking.specs.Headers.{octets_of, header_at, fields_of, is_whole, read_of, Stands, Fit}
 use Rattle.networking.specs.declared.header.MessageHeader.{MessageHeader}
 
 pub length-octets_of : (h : MessageHeader) → length (octets_of h) ≡ 48
 unfolding octets octets_of
 length-octets_of h = refl
+
+-- how many octets there are of a number and of a header
+pub ruleset lengths = (length-octets, length-octets_of)
 
 -- what stands at the places of a header's octets
 pub record Fields (h : MessageHeader) (bs : List ℕ) : Type 0 where

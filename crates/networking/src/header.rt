@@ -51,6 +51,7 @@ impl MessageHeader {
     }
 
     // Fills `out` with the header.
+    #[tactic(auto, using(crate::proofs::Framing::lengths))]
     pub fn write_to(&self, out: &mut [u8]) -> Result<(), Fault>
         ensures after { Fills (octets_of self.now) out.old result out.new }
         ensures back { OnOk result ((rest : List ℕ) → self.now.length ≤ length rest → read_of (out.new ++ rest) ≡ Some self.now) }

@@ -18,6 +18,8 @@ pub octets_4 : (n : ℕ) → (n / 16777216 % 256) ∷ (n / 65536 % 256) ∷ (n /
 unfolding octets
 octets_4 n = rw (div-one n)
 
+pub ruleset spelled = (octets_4, octets_8)
+
 pub value_8 : (xs : List ℕ) → length xs ≡ 8 → get_or xs 0 0 * 72057594037927936 + get_or xs 1 0 * 281474976710656 + get_or xs 2 0 * 1099511627776 + get_or xs 3 0 * 4294967296 + get_or xs 4 0 * 16777216 + get_or xs 5 0 * 65536 + get_or xs 6 0 * 256 + get_or xs 7 0 ≡ value xs
 unfolding value
 value_8 [] e = omega arith

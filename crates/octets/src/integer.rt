@@ -12,6 +12,7 @@ impl Number for u32 {
 
     ghost pattern = { λ x. x };
 
+    #[tactic(auto, using(crate::proofs::Spelling::spelled))]
     fn write_at(self, out: &mut [u8], at: usize) -> Result<(), Fault> {
         put(out, at, &u32::to_be_bytes(self))
     }
@@ -27,6 +28,7 @@ impl Number for u64 {
 
     ghost pattern = { λ x. x };
 
+    #[tactic(auto, using(crate::proofs::Spelling::spelled))]
     fn write_at(self, out: &mut [u8], at: usize) -> Result<(), Fault> {
         put(out, at, &u64::to_be_bytes(self))
     }

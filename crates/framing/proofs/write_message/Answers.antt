@@ -1,10 +1,5 @@
-use Rattle.std.proofs.Common.{sym, ◌∙◌}
-use Rattle.networking.proofs.Framing.{length-octets_of}
 use Rattle.framing.proofs.Joining.{joined}
 use Rattle.framing.proofs.write_message.Goals as goal
-
-pub returns-in_err-write_to-clause-after : goal.returns-in_err-write_to-clause-after
-returns-in_err-write_to-clause-after g c = absurd (c.in_err-write_to.ensures.after.0 (c.split_at_mut-front.ensures.front_len ∙ sym (length-octets_of _)))
 
 pub returns-clause-back : goal.returns-clause-back
 returns-clause-back g c =

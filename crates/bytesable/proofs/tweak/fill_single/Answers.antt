@@ -7,9 +7,6 @@ use Rattle.bytesable.specs.Tweaks.{double}
 use Rattle.bytesable.proofs.Fielding.{length-field}
 use Rattle.bytesable.proofs.tweak.fill_single.Goals as goal
 
-pub returns-then-out-ne-SINGLE : goal.returns-then-out-ne-SINGLE
-returns-then-out-ne-SINGLE c = (λ e. c.if-out-ne-SINGLE.true (e ∙ length-field 8 c.args.field.tag c.args.field.size _), refl, refl)
-
 pub returns : goal.returns
 returns c =
     let os = head c.args.field.tag c.args.field.size ++ double c.args.x in

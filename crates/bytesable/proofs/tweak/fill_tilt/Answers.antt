@@ -10,9 +10,6 @@ use Rattle.bytesable.proofs.Fielding.{length-field}
 use Rattle.bytesable.proofs.TweakLaws.{length-tweak_octets, tilt_spelled}
 use Rattle.bytesable.proofs.tweak.fill_tilt.Goals as goal
 
-pub returns-then-out-ne-DOUBLE : goal.returns-then-out-ne-DOUBLE
-returns-then-out-ne-DOUBLE c = (λ e. c.if-out-ne-DOUBLE.true (e ∙ length-tweak_octets (Tilt c.args.first c.args.second)), refl, refl)
-
 pub returns : goal.returns
 returns c =
     let x = c.args.first in

@@ -4,9 +4,6 @@ use Rattle.bytesable.proofs.Fielding.{length-field}
 use Rattle.bytesable.proofs.RayLaws.{length-ray_octets, surface_of, height_of, path_of, ray_octets_spelled, held}
 use Rattle.bytesable.proofs.ray.RayBytesable.into_bytes.Goals as goal
 
-pub returns-then-out-ne-BYTES : goal.returns-then-out-ne-BYTES
-returns-then-out-ne-BYTES c = record { after = (λ e. omega (arith, length-ray_octets c.args.self.now), refl, refl) }
-
 pub returns : goal.returns
 returns c =
     let ray = c.args.self.now in
