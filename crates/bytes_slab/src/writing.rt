@@ -23,7 +23,7 @@ impl BytesSlab {
         })
     }
 
-    // The valid bytes.
+    // The valid bytes. Not by a piece: a piece has a byte, and these may be none.
     pub fn valid<'a>(&self, region: &'a [u8]) -> Result<&'a [u8], Fault>
         ensures answer { Shows self.now region.now result }
     {

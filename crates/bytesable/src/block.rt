@@ -19,7 +19,7 @@ impl Block {
     // The most octets that a block has.
     pub const MOST: usize = MOST;
 
-    // A block of no octets.
+    // A block of no octets. No `Default`: its name says what it is.
     pub fn empty() -> Block
         ensures answer { block_octets result ≡ [] }
     {
@@ -28,7 +28,7 @@ impl Block {
         }
     }
 
-    // A block of these octets, unless they are too many.
+    // A block of these octets, unless they are too many. `new` and no `TryFrom`, as every figure here that may be refused is made.
     pub fn new(bytes: &[u8]) -> Result<Block, Fault>
         ensures answer { MatchResult result (λ b. bytes.now ≡ block_octets b) (λ e. (number_of e ≡ 14) × (96 < length bytes.now)) }
     {
@@ -64,6 +64,7 @@ impl Bytesable for Block {
         Ok(())
     }
 
+    // By the octets that are there: a derived `==` would read the unused places too.
     fn same(&self, other: &Block) -> bool {
         self.as_bytes() == other.as_bytes()
     }

@@ -82,6 +82,7 @@ impl Bytesable for Ray {
         Ok(())
     }
 
+    // These two lines stand for each element that has a `read`: a default in the trait would ask every element for one.
     fn from_bytes(&mut self, from: &[u8]) -> Result<(), Fault> {
         *self = Ray::read(from).ok_or(Fault::NoValue)?;
         Ok(())

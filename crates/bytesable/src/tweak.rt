@@ -130,6 +130,7 @@ impl Bytesable for Tweak {
         Ok(())
     }
 
+    // No derived `==`: that of floats is another. An arm for each variant, since each names its own floats.
     fn same(&self, other: &Tweak) -> bool {
         match (*self, *other) {
             (Tweak::Thickness(a), Tweak::Thickness(b)) => same_pattern(a, b),

@@ -24,6 +24,7 @@ pub fn write_message<T: Bytesable>(
     if out.len().checked_sub(MessageHeader::BYTES) != Some(length) {
         return Err(Fault::Mismatched);
     }
+    // `as`: there is no `From` from usize to u64, and the proof shows that nothing is lost.
     let sized = MessageHeader {
         length: length as u64,
         ..*header

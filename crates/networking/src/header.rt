@@ -47,6 +47,7 @@ impl MessageHeader {
         ensures answer { result ≡ read_of bytes.now }
         ensures again { Stands result bytes.now }
     {
+        // `as`, here and below: there is no `From` from usize to u128, and the proof shows that nothing is lost.
         MessageHeader::read(bytes).filter(|header| bytes.len() as u128 >= header.required_bytes())
     }
 

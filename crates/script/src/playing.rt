@@ -30,6 +30,7 @@ pub fn play_line(heap: Global, line: &[u8]) -> Result<Answer, AllocError>
 pub fn play(heap: Global, line: &str) -> Result<Answer, AllocError>
     ensures answer { IfOk result (λ a. Plays (words_of line.now) a) }
 {
+    // These two answers are no errors: there is no verb yet that could be stopped.
     let mut words = Words::of(line);
     let Some(word) = words.next().filter(|word| !word.starts_with('#')) else {
         return Ok(Answer::Nothing);

@@ -14,7 +14,7 @@ pub enum Verb {
     Element,
 }
 
-// The verb that a word names.
+// The verb that a word names. A table for each type, here and for kinds and forms: no macro of ours may write an `impl`.
 impl FromStr for Verb {
     type Err = UnknownName;
 

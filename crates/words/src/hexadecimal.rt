@@ -46,7 +46,7 @@ fn are_digits(word: &str) -> bool
     word.bytes().all(|c| matches!(c, b'0'..=b'9' | b'a'..=b'f'))
 }
 
-// The bytes of a word: one pair of digits or more, or `-` for none.
+// The bytes of a word: one pair of digits or more, or `-` for none. None is a word of another kind, an error is want of memory.
 pub fn bytes(heap: Global, word: &str) -> Result<Option<Vec<u8>>, AllocError>
     ensures { IfOk result (λ o. option_map vec_items o ≡ bytes_of word.now) }
 {
