@@ -68,6 +68,8 @@ mod tests {
             let verb = word.parse::<Verb>()?;
             assert_eq!(rt; verb.to_string(heap)?.as_str(), word);
         }
+        let unknown = format!(in heap; "{}", script::UnknownName)?;
+        assert_eq!(rt; unknown.as_str(), "unknown name");
         assert!(rt; "reads".parse::<Verb>().is_err());
         Ok(())
     }
