@@ -43,7 +43,7 @@ fn float(word: &str) -> Option<f64>
 fn ray(words: &mut Words<'_>) -> Option<Ray>
     ensures answer { MatchOption result (ray_spelled words.old ≡ None) (λ x. ray_spelled words.old ≡ Some (ray_octets x)) }
 {
-    // `as`: it is at most the greatest u32, which the proof sees.
+    // `as`: the bound makes the cast exact, and `try_from` would test it again.
     let surface = unsigned(words.next()?, u64::from(u32::MAX))? as u32;
     let height = signed(words.next()?)?;
     let path = signed(words.only()?)?;

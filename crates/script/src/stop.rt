@@ -1,14 +1,24 @@
 // Why a line is answered by no more than its verb.
-ghost use Rattle.std.specs.Prelude.{◌≡◌};
+ghost use Rattle.std.specs.Prelude.{◌≡◌, Some, codes};
 
 use answers::Fault;
 use std::alloc::AllocError;
-use thiserror::Error;
+use std::error::Error;
+use std::fmt;
 
 // A word that names nothing of the kind that is looked for.
-#[derive(Clone, Copy, Debug, PartialEq, Eq, Hash, Error)]
-#[error("the word names nothing that is known")]
+#[derive(Clone, Copy, Debug, PartialEq, Eq)]
 pub struct UnknownName;
+
+impl fmt::Display for UnknownName {
+    ghost output = { λ _. Some (codes "unknown name") };
+
+    fn fmt<W: fmt::Write>(&self, f: &mut fmt::Formatter<W>) -> fmt::Result {
+        write!(f, "unknown name")
+    }
+}
+
+impl Error for UnknownName {}
 
 #[derive(Drop)]
 pub(crate) enum Stop {

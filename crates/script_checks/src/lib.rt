@@ -68,11 +68,9 @@ mod tests {
             let verb = word.parse::<Verb>()?;
             assert_eq!(rt; verb.to_string(heap)?.as_str(), word);
         }
-        let unknown = "reads".parse::<Verb>().err().ok_or("no such verb")?;
-        assert_eq!(rt;
-            unknown.to_string(heap)?.as_str(),
-            "the word names nothing that is known"
-        );
+        let unknown = format!(in heap; "{}", script::UnknownName)?;
+        assert_eq!(rt; unknown.as_str(), "unknown name");
+        assert!(rt; "reads".parse::<Verb>().is_err());
         Ok(())
     }
 }
