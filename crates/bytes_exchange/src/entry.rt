@@ -1,8 +1,7 @@
 use fixed::Fixed;
 use pieces::Piece;
 
-// An entry of a queue: bytes resident in the region, or the handle of a chunk that a store keeps. A function that uses one
-// again takes it by `&`: it may hold a piece, whose Model keeps the check from copying it as an argument.
+// An entry of a queue: bytes resident in the region, or the handle of a chunk that a store keeps.
 #[derive(Clone, Copy, Debug, PartialEq, Eq, Hash)]
 pub enum QueueEntry {
     Resident(Piece),

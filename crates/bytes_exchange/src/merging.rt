@@ -1,6 +1,8 @@
 ghost use Rattle.std.specs.Prelude.{◌≡◌, Some};
+ghost use Rattle.std.specs.Option.{option_map};
+ghost use Rattle.pieces.specs.Pieces.{span};
 ghost use Rattle.bytes_exchange.specs.Queues as queues;
-ghost use Rattle.bytes_exchange.specs.Queues.{entries, continued, Extends};
+ghost use Rattle.bytes_exchange.specs.Queues.{entry, entries, continued, Extends};
 
 use crate::entry::{Extended, MergeQueue, QueueEntry};
 use answers::Fault;
@@ -9,7 +11,7 @@ use pieces::Piece;
 impl QueueEntry {
     // What it becomes with a piece behind it, where they merge.
     fn merge(self, piece: Piece) -> Option<QueueEntry>
-        ensures answer { result ≡ continued (Some self) piece }
+        ensures answer { option_map entry result ≡ continued (Some (entry self)) (span piece) }
     {
         match self {
             QueueEntry::Resident(resident) => resident.merge(piece).map(QueueEntry::Resident),
@@ -21,7 +23,7 @@ impl QueueEntry {
 impl MergeQueue {
     // What the last entry becomes with a piece behind it, where they merge.
     fn grown(&self, piece: Piece) -> Option<QueueEntry>
-        ensures answer { result ≡ queues.grown (entries self.now) piece }
+        ensures answer { option_map entry result ≡ queues.grown (entries self.now) (span piece) }
     {
         self.entries.back()?.merge(piece)
     }
@@ -29,7 +31,7 @@ impl MergeQueue {
     // A piece more at the back: merged with a resident last entry that it continues, else an entry of its own. A queue of
     // 12 entries refuses it, though it would merge.
     pub fn extend(&mut self, piece: Piece) -> Result<Extended, Fault>
-        ensures after { Extends piece (entries self.old) result (entries self.new) }
+        ensures after { Extends (span piece) (entries self.old) result (entries self.new) }
     {
         let len = self.entries.len();
         if len >= 12 {

@@ -1,6 +1,7 @@
 ghost use Rattle.std.specs.Prelude.{◌≡◌, ◌==◌, ◌≤◌, [], length, drop, sum_by, slice_set};
 ghost use Rattle.std.specs.List.{slice_get};
-ghost use Rattle.bytes_exchange.specs.Queues.{entries};
+ghost use Rattle.std.specs.Option.{option_map};
+ghost use Rattle.bytes_exchange.specs.Queues.{entry, entries};
 ghost use Rattle.bytes_exchange.specs.Queues as queues;
 
 use crate::entry::{MergeQueue, QueueEntry};
@@ -9,7 +10,7 @@ use fixed::Fixed;
 impl QueueEntry {
     // How many of its bytes are resident.
     fn resident_len(&self) -> usize
-        ensures answer { result ≡ queues.resident_len self.now }
+        ensures answer { result ≡ queues.resident_len (entry self.now) }
         ensures few { result ≤ 4096 }
     {
         match self {
@@ -52,20 +53,20 @@ impl MergeQueue {
 
     // The entry at a place, the front's being 0.
     pub fn get(&self, place: usize) -> Option<QueueEntry>
-        ensures answer { result ≡ slice_get (entries self.now) place }
+        ensures answer { option_map entry result ≡ slice_get (entries self.now) place }
     {
         self.entries.get(place)
     }
 
     pub fn front(&self) -> Option<QueueEntry>
-        ensures answer { result ≡ slice_get (entries self.now) 0 }
+        ensures answer { option_map entry result ≡ slice_get (entries self.now) 0 }
     {
         self.get(0)
     }
 
     // Takes the front entry.
     pub fn pop_front(&mut self) -> Option<QueueEntry>
-        ensures answer { result ≡ slice_get (entries self.old) 0 }
+        ensures answer { option_map entry result ≡ slice_get (entries self.old) 0 }
         ensures after { entries self.new ≡ drop 1 (entries self.old) }
     {
         self.entries.pop_front()
@@ -73,8 +74,8 @@ impl MergeQueue {
 
     // Another entry at a place, where there is one; answers the one that stood there.
     pub fn replace(&mut self, place: usize, other: QueueEntry) -> Option<QueueEntry>
-        ensures answer { result ≡ slice_get (entries self.old) place }
-        ensures after { entries self.new ≡ slice_set (entries self.old) place other }
+        ensures answer { option_map entry result ≡ slice_get (entries self.old) place }
+        ensures after { entries self.new ≡ slice_set (entries self.old) place (entry other) }
     {
         self.entries.replace(place, other)
     }

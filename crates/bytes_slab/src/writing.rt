@@ -1,4 +1,6 @@
 ghost use Rattle.std.specs.Prelude.{◌≡◌, ◌+◌, ◌*◌};
+ghost use Rattle.std.specs.Option.{option_map};
+ghost use Rattle.pieces.specs.Pieces.{span};
 ghost use Rattle.bytes_slab.specs.Slabs.{Begins, Shows, room, grown, extracted, shortened};
 
 use crate::slab::BytesSlab;
@@ -58,7 +60,7 @@ impl BytesSlab {
 
     // Takes the first `count` valid bytes off as a piece; none where there are not so many, or the count is 0.
     pub fn extract(&mut self, count: usize) -> Option<Piece>
-        ensures answer { result ≡ extracted self.old count }
+        ensures answer { option_map span result ≡ extracted self.old count }
         ensures after { self.new ≡ shortened self.old count }
     {
         if !(1..=self.end - self.begin).contains(&count) {

@@ -4,12 +4,16 @@ use Rattle.std.specs.Borrow.{Bor}
 use Rattle.answers.specs.Faults.{number_of}
 use Rattle.answers.specs.declared.Fault.{Fault}
 use Rattle.shape.specs.declared.shape.Shape.{Shape}
+use Rattle.pieces.specs.declared.piece.Piece.{Piece}
 
 -- where a piece lies: a buffer, a start in it, a length
 pub record Span : Type 0 where
   pub buffer : ℕ
   pub start : ℕ
   pub len : ℕ
+
+abbrev pub span : Piece → Span
+span p = record { buffer = p.buffer; start = p.start; len = p.len }
 
 -- a piece has a byte, and lies in a buffer of the greatest size of the greatest region
 abbrev pub piece : ℕ → ℕ → ℕ → Option Span

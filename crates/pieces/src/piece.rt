@@ -1,22 +1,13 @@
-use std::marker::Model;
+ghost use Rattle.std.specs.Prelude.{◌+◌, ◌<◌, ◌≤◌};
 
-// A part of a buffer, of one byte at least: one lease of the buffer.
+// A part of a buffer, of one byte at least: one lease of the buffer. No Model, though `span` then stands in each clause: tried,
+// and a Copy type that holds a piece, as a queue's entry does, may then be passed by value but once.
 #[derive(Clone, Copy, Debug, PartialEq, Eq, Hash)]
 pub struct Piece {
     pub buffer: usize,
     pub start: usize,
     pub len: usize,
-}
-
-impl Model for Piece {
-    ghost use Rattle.std.specs.Prelude.{◌+◌, ◌<◌, ◌≤◌};
-    ghost use Rattle.pieces.specs.Pieces.{Span};
-
-    ghost Value = { Span };
-
-    ghost view = { λ p. record { buffer = p.buffer; start = p.start; len = p.len } };
-
-    ghost invariant = { λ p. (p.buffer < 16) × (1 ≤ p.len) × (p.start + p.len ≤ 4096) };
-
-    ghost inverse = { λ s. record { buffer = s.buffer; start = s.start; len = s.len } };
+    ghost known: { buffer < 16 },
+    ghost some: { 1 ≤ len },
+    ghost ends: { start + len ≤ 4096 },
 }

@@ -8,39 +8,37 @@ use Rattle.std.proofs.lemmas.Grind.{flat_map-append}
 use Rattle.std.proofs.lemmas.Bool.{cases_Bool, cond-false, cond-true}
 use Rattle.pieces.specs.Pieces.{Span, bytes, joined, joins}
 use Rattle.pieces.specs.Counts.{pieces_in}
-use Rattle.bytes_exchange.specs.Queues.{became, contents, continued, extended, extended_by, grown, handles, residents, through}
-use Rattle.bytes_exchange.specs.declared.entry.QueueEntry.{QueueEntry}
-use Rattle.bytes_exchange.specs.declared.entry.QueueEntry.TheVariants.{Resident, Paged}
+use Rattle.bytes_exchange.specs.Queues.{Entry, resident, paged, became, contents, continued, extended, extended_by, grown, handles, residents, through}
 use Rattle.regions.specs.Queues.{leased}
 use Rattle.regions.proofs.Leasing.{count_one}
 use Rattle.regions.proofs.Reading.{merge}
 
 -- the piece continues the last entry, which is resident, and is merged with it
-record Merges (es : List QueueEntry) (p : Span) : Type 0 where
-  pub before : List QueueEntry
+record Merges (es : List Entry) (p : Span) : Type 0 where
+  pub before : List Entry
   pub last : Span
   pub meets : joins last p ≡ true
-  pub was : es ≡ before ++ Resident last ∷ []
-  pub entry : grown es p ≡ Some (Resident (joined last p))
-  pub is : extended es p ≡ before ++ Resident (joined last p) ∷ []
+  pub was : es ≡ before ++ resident last ∷ []
+  pub entry : grown es p ≡ Some (resident (joined last p))
+  pub is : extended es p ≡ before ++ resident (joined last p) ∷ []
 
-last_place : (es : List QueueEntry) (l : QueueEntry) → length (es ++ l ∷ []) - 1 ≡ length es
+last_place : (es : List Entry) (l : Entry) → length (es ++ l ∷ []) - 1 ≡ length es
 last_place es l = let n = length-append es (l ∷ []) in omega arith
 
-last_is : (es : List QueueEntry) (l : QueueEntry) → slice_get (es ++ l ∷ []) (length es) ≡ Some l
+last_is : (es : List Entry) (l : Entry) → slice_get (es ++ l ∷ []) (length es) ≡ Some l
 last_is [] l = refl
 last_is (e ∷ es) l = last_is es l
 
-last_grown : (es : List QueueEntry) (l : QueueEntry) (p : Span) → grown (es ++ l ∷ []) p ≡ continued (Some l) p
+last_grown : (es : List Entry) (l : Entry) (p : Span) → grown (es ++ l ∷ []) p ≡ continued (Some l) p
 last_grown es l p = ap (λ o. continued o p) (ap (slice_get (es ++ l ∷ [])) (last_place es l) ∙ last_is es l)
 
-by_last : (es : List QueueEntry) (l : QueueEntry) (p : Span) → (grown (es ++ l ∷ []) p ≡ None) ⊎ Merges (es ++ l ∷ []) p
-by_last es (Paged h) p = inl (last_grown es (Paged h) p)
-by_last es (Resident l) p =
-    let g = last_grown es (Resident l) p in
+by_last : (es : List Entry) (l : Entry) (p : Span) → (grown (es ++ l ∷ []) p ≡ None) ⊎ Merges (es ++ l ∷ []) p
+by_last es (paged h) p = inl (last_grown es (paged h) p)
+by_last es (resident l) p =
+    let g = last_grown es (resident l) p in
     ⊎_elim
     (λ (t : joins l p ≡ true).
-    let e : grown (es ++ Resident l ∷ []) p ≡ Some (Resident (joined l p)) = g ∙ ap (option_map Resident) (cond-true (joins l p) (Some (joined l p)) None t) in
+    let e : grown (es ++ resident l ∷ []) p ≡ Some (resident (joined l p)) = g ∙ ap (option_map resident) (cond-true (joins l p) (Some (joined l p)) None t) in
     inr (record {
       before = es;
       last = l;
@@ -48,34 +46,34 @@ by_last es (Resident l) p =
       was = refl;
       entry = e;
       is =
-          ap (extended_by (es ++ Resident l ∷ []) p) e
-          ∙ ap (λ k. set (es ++ Resident l ∷ []) k (Resident (joined l p))) (last_place es (Resident l))
-          ∙ set-append_seam es (Resident l) [] (Resident (joined l p));
+          ap (extended_by (es ++ resident l ∷ []) p) e
+          ∙ ap (λ k. set (es ++ resident l ∷ []) k (resident (joined l p))) (last_place es (resident l))
+          ∙ set-append_seam es (resident l) [] (resident (joined l p));
     }))
-    (λ (f : joins l p ≡ false). inl (g ∙ ap (option_map Resident) (cond-false (joins l p) (Some (joined l p)) None f)))
+    (λ (f : joins l p ≡ false). inl (g ∙ ap (option_map resident) (cond-false (joins l p) (Some (joined l p)) None f)))
     (cases_Bool (joins l p))
 
 -- a list has no entry, or a last one
-ended : (e : QueueEntry) (es : List QueueEntry) → (before : List QueueEntry) × ((l : QueueEntry) × (e ∷ es ≡ before ++ l ∷ []))
+ended : (e : Entry) (es : List Entry) → (before : List Entry) × ((l : Entry) × (e ∷ es ≡ before ++ l ∷ []))
 ended e [] = ([], (e, refl))
 ended e (x ∷ es) = let r = ended x es in (e ∷ r.0, (r.1.0, ap (λ xs. e ∷ xs) r.1.1))
 
 -- the piece is an entry of its own, or merged with the last one
-two_ways : (es : List QueueEntry) (p : Span) → (grown es p ≡ None) ⊎ Merges es p
+two_ways : (es : List Entry) (p : Span) → (grown es p ≡ None) ⊎ Merges es p
 two_ways [] p = inl refl
 two_ways (e ∷ es) p = let r = ended e es in subst (λ xs. (grown xs p ≡ None) ⊎ Merges xs p) (sym r.1.1) (by_last r.0 r.1.0 p)
 
-appended : (es : List QueueEntry) (p : Span) → grown es p ≡ None → extended es p ≡ es ++ Resident p ∷ []
+appended : (es : List Entry) (p : Span) → grown es p ≡ None → extended es p ≡ es ++ resident p ∷ []
 appended es p e = ap (extended_by es p) e
 
 module _ (size : ℕ) (region : List ℕ) (chunk : ℕ → Option (List ℕ)) where
   -- the bytes of entries and of one resident entry behind them
-  contents_more : (es : List QueueEntry) (p : Span) → contents size region chunk (es ++ Resident p ∷ []) ≡ contents size region chunk es ++ bytes size region p
+  contents_more : (es : List Entry) (p : Span) → contents size region chunk (es ++ resident p ∷ []) ≡ contents size region chunk es ++ bytes size region p
   contents_more es p =
-      flat_map-append (through size region chunk) es (Resident p ∷ [])
+      flat_map-append (through size region chunk) es (resident p ∷ [])
       ∙ ap (λ ys. contents size region chunk es ++ ys) (append-nil (bytes size region p))
 
-  pub bytes_behind : (es : List QueueEntry) (p : Span) → contents size region chunk (extended es p) ≡ contents size region chunk es ++ bytes size region p
+  pub bytes_behind : (es : List Entry) (p : Span) → contents size region chunk (extended es p) ≡ contents size region chunk es ++ bytes size region p
   bytes_behind es p =
       ⊎_elim
       (λ (e : grown es p ≡ None). ap (contents size region chunk) (appended es p e) ∙ contents_more es p)
@@ -88,17 +86,17 @@ module _ (size : ℕ) (region : List ℕ) (chunk : ℕ → Option (List ℕ)) wh
       (two_ways es p)
 
 -- a resident entry behind others adds no handle, and one piece
-handles_more : (es : List QueueEntry) (p : Span) → handles (es ++ Resident p ∷ []) ≡ handles es
+handles_more : (es : List Entry) (p : Span) → handles (es ++ resident p ∷ []) ≡ handles es
 handles_more [] p = refl
-handles_more (Resident q ∷ es) p = handles_more es p
-handles_more (Paged h ∷ es) p = ap (λ hs. h ∷ hs) (handles_more es p)
+handles_more (resident q ∷ es) p = handles_more es p
+handles_more (paged h ∷ es) p = ap (λ hs. h ∷ hs) (handles_more es p)
 
-residents_more : (es : List QueueEntry) (p : Span) → residents (es ++ Resident p ∷ []) ≡ residents es ++ p ∷ []
+residents_more : (es : List Entry) (p : Span) → residents (es ++ resident p ∷ []) ≡ residents es ++ p ∷ []
 residents_more [] p = refl
-residents_more (Resident q ∷ es) p = ap (λ ps. q ∷ ps) (residents_more es p)
-residents_more (Paged h ∷ es) p = residents_more es p
+residents_more (resident q ∷ es) p = ap (λ ps. q ∷ ps) (residents_more es p)
+residents_more (paged h ∷ es) p = residents_more es p
 
-pub same_handles : (es : List QueueEntry) (p : Span) → handles (extended es p) ≡ handles es
+pub same_handles : (es : List Entry) (p : Span) → handles (extended es p) ≡ handles es
 same_handles es p =
     ⊎_elim
     (λ (e : grown es p ≡ None). ap handles (appended es p e) ∙ handles_more es p)
@@ -106,10 +104,10 @@ same_handles es p =
     (two_ways es p)
 
 -- how many pieces of the buffer b entries and one resident entry behind them have
-pieces_more : (b : ℕ) (es : List QueueEntry) (p : Span) → pieces_in b (residents (es ++ Resident p ∷ [])) ≡ pieces_in b (residents es) + cond (eqb p.buffer b) 1 0
+pieces_more : (b : ℕ) (es : List Entry) (p : Span) → pieces_in b (residents (es ++ resident p ∷ [])) ≡ pieces_in b (residents es) + cond (eqb p.buffer b) 1 0
 pieces_more b es p = ap (pieces_in b) (residents_more es p) ∙ count_one b (residents es) [] p ∙ ap (λ ps. pieces_in b ps + cond (eqb p.buffer b) 1 0) (append-nil (residents es))
 
-pub leases : (es : List QueueEntry) (p : Span) (b : ℕ) → pieces_in b (residents (extended es p)) ≡ pieces_in b (residents es) + leased b p (became (grown es p))
+pub leases : (es : List Entry) (p : Span) (b : ℕ) → pieces_in b (residents (extended es p)) ≡ pieces_in b (residents es) + leased b p (became (grown es p))
 leases es p b =
     ⊎_elim
     (λ (e : grown es p ≡ None).

@@ -7,12 +7,6 @@ returns-in_err-old-clause-after g c =
     let t = c.args.self.now in
     sym (removed_outside t.items t.len c.args.i (omega arith) c.in_err-old.ensures.answer)
 
-pub copy_within-requires : goal.copy_within-requires
-copy_within-requires g c =
-    let t = c.args.self.now in
-    let within = inside t.items t.len c.args.i (omega arith) _ c.in_ok-old.ensures.answer in
-    record { start_le_end = omega arith; in_bounds = omega arith; dest_in_bounds = omega arith; not_exhausted = tt }
-
 pub returns-clause-after : goal.returns-clause-after
 returns-clause-after g c =
     let t = c.args.self.now in
