@@ -19,7 +19,7 @@ impl Block {
     // The most octets that a block has.
     pub const MOST: usize = MOST;
 
-    // A block of no octets. No `Default`: its name says what it is.
+    // A block of no octets.
     pub fn empty() -> Block
         ensures answer { block_octets result ≡ [] }
     {
@@ -28,7 +28,7 @@ impl Block {
         }
     }
 
-    // A block of these octets, unless they are too many. `new` and no `TryFrom`, as every figure here that may be refused is made.
+    // A block of these octets, unless they are too many.
     pub fn new(bytes: &[u8]) -> Result<Block, Fault>
         ensures answer { MatchResult result (λ b. bytes.now ≡ block_octets b) (λ e. (number_of e ≡ 14) × (96 < length bytes.now)) }
     {
@@ -36,11 +36,29 @@ impl Block {
         Ok(Block { octets })
     }
 
-    // The octets.
+    // The octets. By this name, as `str` has it: `AsRef` would say in a ghost member what the clause says here.
     pub fn as_bytes(&self) -> &[u8]
         ensures answer { result.now ≡ block_octets self.now }
     {
         self.octets.as_slice()
+    }
+}
+
+impl Default for Block {
+    ghost is_default = { λ b. block_octets b ≡ [] };
+
+    fn default() -> Block {
+        Block::empty()
+    }
+}
+
+impl TryFrom<&[u8]> for Block {
+    type Error = Fault;
+
+    ghost try_from_gives = { λ bytes r. MatchResult r (λ b. bytes.now ≡ block_octets b) (λ e. (number_of e ≡ 14) × (96 < length bytes.now)) };
+
+    fn try_from(bytes: &[u8]) -> Result<Block, Fault> {
+        Block::new(bytes)
     }
 }
 

@@ -83,25 +83,19 @@ fn same_pattern(a: f64, b: f64) -> bool
 }
 
 // Fills `out` with a tweak of one float.
-#[tactic(auto, using(crate::proofs::TweakLaws::sizes))]
 fn fill_single(out: &mut [u8], field: Field, x: f64) -> Result<(), Fault>
-    requires { field.at ≡ 0 }
+    requires front { field.at ≡ 0 }
+    requires size { length out.old ≡ 11 }
     ensures { Fills (head field.tag field.size ++ double x) out.old result out.new }
 {
-    if out.len() != SINGLE {
-        return Err(Fault::Mismatched);
-    }
     field.put(out, x)
 }
 
 // Fills `out` with a tweak of two.
-#[tactic(auto, using(crate::proofs::TweakLaws::sizes))]
 fn fill_tilt(out: &mut [u8], first: f64, second: f64) -> Result<(), Fault>
+    requires { length out.old ≡ 19 }
     ensures { Fills (tweak_octets (Tweak.Tilt first second)) out.old result out.new }
 {
-    if out.len() != DOUBLE {
-        return Err(Fault::Mismatched);
-    }
     TILT.put(out, first)?;
     second.write_at(out, SINGLE)
 }
@@ -117,7 +111,11 @@ impl Bytesable for Tweak {
         }
     }
 
+    #[tactic(auto, using(crate::proofs::TweakLaws::sizes))]
     fn into_bytes(&self, out: &mut [u8]) -> Result<(), Fault> {
+        if out.len() != self.length_in_bytes() {
+            return Err(Fault::Mismatched);
+        }
         match *self {
             Tweak::Thickness(thickness) => fill_single(out, THICKNESS, thickness),
             Tweak::Tilt(first, second) => fill_tilt(out, first, second),

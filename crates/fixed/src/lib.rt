@@ -9,7 +9,8 @@ use std::alloc::AllocError;
 
 // At most N values, front first. An array with a length beside it, since nothing here allocates, and the kit's ArrayVec is
 // not Copy, as a table that holds queues by value needs it to be. No Model: Copy asks one for the fields back, and a list of
-// the values does not say what stands in the unused places.
+// the values does not say what stands in the unused places. No derived Debug and no `==`, here and on what is made of a table:
+// they would read those places.
 #[derive(Copy)]
 pub struct Fixed<T: Copy, const N: usize> {
     items: [T; N],

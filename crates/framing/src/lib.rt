@@ -7,7 +7,8 @@ use answers::Fault;
 use bytesable::Bytesable;
 use networking::MessageHeader;
 
-// Fills `out` with the header, its length set to the element's, and then the element.
+// Fills `out` with the header, its length set to the element's, and then the element. Header and element are two arguments, as
+// in the Rust: a struct of both would be made for the call and taken apart in it.
 #[tactic(auto, using(crate::proofs::Joining::lengths))]
 pub fn write_message<T: Bytesable>(
     header: &MessageHeader,
@@ -24,7 +25,7 @@ pub fn write_message<T: Bytesable>(
     if out.len().checked_sub(MessageHeader::BYTES) != Some(length) {
         return Err(Fault::Mismatched);
     }
-    // `as`: there is no `From` from usize to u64, and the proof shows that nothing is lost.
+    // `as`: the proof shows that nothing is lost, and `try_from` would test it again.
     let sized = MessageHeader {
         length: length as u64,
         ..*header

@@ -47,7 +47,7 @@ impl MessageHeader {
         ensures answer { result ≡ read_of bytes.now }
         ensures again { Stands result bytes.now }
     {
-        // `as`, here and below: there is no `From` from usize to u128, and the proof shows that nothing is lost.
+        // `as`: there is no `From` from usize to u128, and the proof shows that nothing is lost.
         MessageHeader::read(bytes).filter(|header| bytes.len() as u128 >= header.required_bytes())
     }
 
@@ -73,6 +73,7 @@ impl MessageHeader {
     pub fn required_bytes(&self) -> u128
         ensures answer { result ≡ 48 + self.now.length }
     {
+        // `as` for both: by `u128::from` the sum does not prove, since a field behind `&` is known to fit only where it is read.
         self.header_bytes() as u128 + self.length as u128
     }
 

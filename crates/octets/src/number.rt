@@ -36,6 +36,7 @@ pub fn put(out: &mut [u8], at: usize, part: &[u8]) -> Result<(), Fault>
     if at > out.len() || part.len() > out.len() - at {
         return Err(Fault::Mismatched);
     }
+    // By index: what is written through `get_mut` is not known of the whole.
     out[at..at + part.len()].copy_from_slice(part);
     Ok(())
 }

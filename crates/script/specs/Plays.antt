@@ -1,5 +1,5 @@
 -- What is answered to a line of a script, by its words. Assumes nothing.
-use Rattle.std.specs.Prelude.{◌≡◌, ℕ, ◌<◌, ◌≤◌, cond, List, [], ◌∷◌, length, Some, None, Ok, Err, Option, Result, vec_items, MatchBool, MatchOption, ◌==◌, ◌≢◌, slice_index}
+use Rattle.std.specs.Prelude.{◌≡◌, ℕ, ◌<◌, ◌≤◌, cond, List, [], ◌∷◌, length, Some, None, Ok, Err, Option, Result, vec_items, MatchBool, MatchOption, ◌==◌, ◌≢◌, slice_index, IfSome}
 use Rattle.answers.specs.Faults.{number_of}
 use Rattle.networking.specs.Headers.{read_of}
 use Rattle.networking.specs.declared.header.MessageHeader.{MessageHeader}
@@ -63,6 +63,10 @@ answer_to v (Ok a) = Some a
 answer_to v (Err stop.Unreadable) = Some (answer.Unreadable (Some v))
 answer_to v (Err (stop.Refused f)) = Some (answer.Refused v f)
 answer_to v (Err (stop.OutOfMemory e)) = None
+
+-- the answer to a line of a verb, played or stopped, is so, where memory did not fail
+abbrev pub Answered : Verb → Result Answer Stop → (Answer → Type 0) → Type 0
+Answered v r P = IfSome (answer_to v r) P
 
 -- a line of no word, or whose first begins with #, is passed over
 abbrev pub Plays : List (List ℕ) → Answer → Type 0

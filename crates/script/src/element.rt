@@ -52,7 +52,7 @@ pub(crate) enum Kind {
     Block,
 }
 
-// The kind that a word names.
+// The kind that a word names: a table for each type, as for verbs.
 impl FromStr for Kind {
     type Err = UnknownName;
 
@@ -78,7 +78,7 @@ pub(crate) enum Form {
     Block,
 }
 
-// The form that a word names.
+// The form that a word names: a table for each type, as for verbs.
 impl FromStr for Form {
     type Err = UnknownName;
 

@@ -1,9 +1,9 @@
 // Does what a line asks for. The allocator is passed beside the words, as std passes it: a struct of both would say no more.
-ghost use Rattle.std.specs.Prelude.{◌≡◌, ◌≢◌, ◌≤◌, length, IfOk, IfSome, MatchResult};
+ghost use Rattle.std.specs.Prelude.{◌≡◌, ◌≢◌, ◌≤◌, length, IfOk, MatchResult};
 ghost use Rattle.std.specs.Result.{result_ok};
 ghost use Rattle.answers.specs.Faults.{number_of};
 ghost use Rattle.words.specs.Lines.{text_of, words_of};
-ghost use Rattle.script.specs.Plays.{Plays, PlaysVerb, PlaysRead, PlaysElement, PlaysMessage, ReadsElement, WritesMessage, answer_to};
+ghost use Rattle.script.specs.Plays.{Plays, PlaysVerb, PlaysRead, PlaysElement, PlaysMessage, ReadsElement, WritesMessage, Answered, answer_to};
 ghost use Rattle.script.specs.Spelled.{element_octets};
 
 use crate::answer::Answer;
@@ -55,7 +55,7 @@ fn answered(verb: Verb, played: Result<Answer, Stop>) -> Result<Answer, AllocErr
 
 // The verbs are these alone, so one match over them is plainer than a closure for each: a missing one is refused.
 fn play_verb(heap: Global, verb: Verb, words: &mut Words<'_>) -> Result<Answer, Stop>
-    ensures answer { IfSome (answer_to verb result) (PlaysVerb verb words.old) }
+    ensures answer { Answered verb result (PlaysVerb verb words.old) }
 {
     match verb {
         Verb::Message => play_message(heap, words),
@@ -65,14 +65,14 @@ fn play_verb(heap: Global, verb: Verb, words: &mut Words<'_>) -> Result<Answer, 
 }
 
 fn play_read(heap: Global, words: &Words<'_>) -> Result<Answer, Stop>
-    ensures answer { IfSome (answer_to Verb.Read result) (PlaysRead words.now) }
+    ensures answer { Answered Verb.Read result (PlaysRead words.now) }
 {
     let octets = bytes_alone(heap, words)?;
     Ok(Answer::Header(MessageHeader::try_read(octets.as_slice())))
 }
 
 fn play_element(heap: Global, words: &mut Words<'_>) -> Result<Answer, Stop>
-    ensures answer { IfSome (answer_to Verb.Element result) (PlaysElement words.old) }
+    ensures answer { Answered Verb.Element result (PlaysElement words.old) }
 {
     let kind = words.next().ok_or(Stop::Unreadable)?.parse::<Kind>()?;
     let octets = bytes_alone(heap, words)?;
@@ -103,7 +103,7 @@ fn read_over<T: Bytesable + Into<Element> + Copy>(
 }
 
 fn play_message(heap: Global, words: &mut Words<'_>) -> Result<Answer, Stop>
-    ensures answer { IfSome (answer_to Verb.Message result) (PlaysMessage words.old) }
+    ensures answer { Answered Verb.Message result (PlaysMessage words.old) }
 {
     let header = header(words).ok_or(Stop::Unreadable)?;
     let element = element(heap, words)?;
@@ -112,7 +112,7 @@ fn play_message(heap: Global, words: &mut Words<'_>) -> Result<Answer, Stop>
 
 // The octets of a message that carries the element.
 fn write_element(heap: Global, header: &MessageHeader, element: &Element) -> Result<Answer, Stop>
-    ensures answer { IfSome (answer_to Verb.Message result) (WritesMessage header.now (element_octets element.now)) }
+    ensures answer { Answered Verb.Message result (WritesMessage header.now (element_octets element.now)) }
 {
     match element {
         Element::Ray(ray) => write_bytesable(heap, header, ray),
@@ -127,7 +127,7 @@ fn write_bytesable<T: Bytesable>(
     element: &T,
 ) -> Result<Answer, Stop>
     requires { length (T.bytes element.now) ≤ 96 }
-    ensures answer { IfSome (answer_to Verb.Message result) (WritesMessage header.now (T.bytes element.now)) }
+    ensures answer { Answered Verb.Message result (WritesMessage header.now (T.bytes element.now)) }
 {
     let mut message = vec![in heap; 0u8; 48 + element.length_in_bytes()]?;
     write_message(header, element, message.as_mut_slice())?;

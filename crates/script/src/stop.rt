@@ -1,4 +1,4 @@
-// Why a line is answered by no more than its verb.
+// What stops a line: it is unreadable, refused, or memory failed.
 ghost use Rattle.std.specs.Prelude.{◌≡◌, Some, codes};
 
 use answers::Fault;
@@ -7,7 +7,7 @@ use std::error::Error;
 use std::fmt;
 
 // A word that names nothing of the kind that is looked for.
-#[derive(Clone, Copy, Debug, PartialEq, Eq)]
+#[derive(Clone, Copy, Debug, PartialEq, Eq, Hash)]
 pub struct UnknownName;
 
 impl fmt::Display for UnknownName {
@@ -29,6 +29,7 @@ pub(crate) enum Stop {
     OutOfMemory(AllocError),
 }
 
+// By hand, as the two below: what a derive writes has no clause, and a `?` has to tell which it made.
 impl From<UnknownName> for Stop {
     ghost use Rattle.script.specs.declared.stop.Stop.TheVariants.{Unreadable};
 

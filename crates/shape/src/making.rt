@@ -19,8 +19,8 @@ impl Shape {
         })
     }
 
-    // Whether a region is as long as the buffers. A region is lent to each call as plain bytes, so it is no type of its own: each
-    // call that reads or writes it asks this, and refuses it by number.
+    // Whether a region is as long as the buffers. A region is lent to each call as plain bytes, so it is no type of its own:
+    // each call that reads or writes it asks this, and refuses it by number.
     pub fn holds(&self, region: &[u8]) -> bool
         ensures answer { Decides result (length region.now ≡ self.now.buffers * self.now.size) }
     {
@@ -63,7 +63,7 @@ impl Targets {
         ensures answer { result ≡ place self.now index }
     {
         let place = index.checked_sub(self.first)?;
-        // `as`: there is no `From` from u64 to usize, and the proof shows that nothing is lost.
+        // `as`: the proof shows that nothing is lost, and `try_from` would test it again.
         (place < self.count).then_some(place as usize)
     }
 }

@@ -9,7 +9,7 @@ use std::alloc::{AllocError, Global};
 use std::fmt;
 
 // Bytes, which print as pairs of digits, or as `-` where there are none.
-#[derive(Clone, Copy)]
+#[derive(Clone, Copy, Debug, PartialEq, Eq, Hash)]
 pub struct HexBytes<'a>(pub &'a [u8]);
 
 impl fmt::Display for HexBytes<'_> {
@@ -27,7 +27,7 @@ impl fmt::Display for HexBytes<'_> {
 }
 
 // A 64-bit pattern, which prints as sixteen digits.
-#[derive(Clone, Copy)]
+#[derive(Clone, Copy, Debug, PartialEq, Eq, Hash)]
 pub struct HexPattern(pub u64);
 
 impl fmt::Display for HexPattern {
@@ -58,6 +58,7 @@ pub fn bytes(heap: Global, word: &str) -> Result<Option<Vec<u8>>, AllocError>
         return Ok(None);
     }
     let mut bytes = vec![in heap; 0u8; word.len() / 2]?;
+    // A match, since both outcomes are answers: `is_ok().then_some(bytes)` would not say which bytes they are.
     match hex::decode_to_slice(word, bytes.as_mut_slice()) {
         Ok(()) => Ok(Some(bytes)),
         Err(_) => Ok(None),

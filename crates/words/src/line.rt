@@ -22,6 +22,7 @@ impl<'a> Model for Words<'a> {
 }
 
 impl<'a> Words<'a> {
+    // `of` and no `From`: nothing is generic over what becomes words, and the clause stands where it is called.
     pub fn of(line: &'a str) -> Words<'a>
         ensures { result ≡ words_of line.now }
     {

@@ -11,6 +11,6 @@ pub returns : goal.returns
 returns c =
     let os = head c.args.field.tag c.args.field.size ++ double c.args.x in
     let long = length-field 8 c.args.field.tag c.args.field.size _ in
-    let written = c.put.ensures.after ∙ ap (λ i. paste c.args.out.now i os (length os)) c.requires in
-    let b = more 11 {s = os} (begin 11 c.args.out.now c.if-out-ne-SINGLE.false) written refl long (omega arith) in
-    fills_ok _ c.args.out.now c.put.result c.put.new.out c.put.ensures.granted (c.if-out-ne-SINGLE.false ∙ sym long) (done b)
+    let written = c.put.ensures.after ∙ ap (λ i. paste c.args.out.now i os (length os)) c.requires.front in
+    let b = more 11 {s = os} (begin 11 c.args.out.now c.requires.size) written refl long (omega arith) in
+    fills_ok _ c.args.out.now c.put.result c.put.new.out c.put.ensures.granted (c.requires.size ∙ sym long) (done b)

@@ -14,7 +14,7 @@ pub returns : goal.returns
 returns c =
     let x = c.args.first in
     let y = c.args.second in
-    let b = more 11 {s = head 17 16 ++ double x} (begin 19 c.args.out.now c.if-out-ne-DOUBLE.false) c.in_ok-put.ensures.after refl (length-field 8 17 16 _) (omega arith) in
+    let b = more 11 {s = head 17 16 ++ double x} (begin 19 c.args.out.now c.requires) c.in_ok-put.ensures.after refl (length-field 8 17 16 _) (omega arith) in
     let w = lays_ok (double y) 11 c.put.new.out c.write_at.result c.write_at.new.out c.write_at.ensures.after (omega (arith, b.long, length-octets 8 (pattern_of y))) in
     let d = more 8 {s = double y} b w.1 refl (length-octets 8 _) (omega arith) in
-    fills_ok _ c.args.out.now c.write_at.result c.write_at.new.out w.0 (c.if-out-ne-DOUBLE.false ∙ sym (length-tweak_octets (Tilt x y))) (done d ∙ tilt_spelled x y)
+    fills_ok _ c.args.out.now c.write_at.result c.write_at.new.out w.0 (c.requires ∙ sym (length-tweak_octets (Tilt x y))) (done d ∙ tilt_spelled x y)
