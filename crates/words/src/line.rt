@@ -1,5 +1,6 @@
 // The words of a line, which blanks part.
-ghost use Rattle.std.specs.Prelude.{◌≡◌, ℕ, List, [], ◌∷◌, IfOk, string_bytes, MatchOption, ◌≢◌};
+ghost use Rattle.std.specs.Prelude.{◌≡◌, ℕ, List, [], ◌∷◌, length, IfOk, string_bytes, MatchOption, ◌≢◌};
+ghost use Rattle.std.specs.Iterator.{at_most};
 ghost use Rattle.words.specs.Lines.{plain_of, text_of, unreturned, words_of};
 
 use std::alloc::{AllocError, Global};
@@ -29,20 +30,26 @@ impl<'a> Words<'a> {
         Words { rest: line }
     }
 
-    // Takes the next word.
-    pub fn next(&mut self) -> Option<&'a str>
-        ensures answer { MatchOption result ((self.old ≡ []) × (self.new ≡ [])) (λ w. self.old ≡ w.now ∷ self.new) }
-    {
-        let (word, rest) = next_word(self.rest)?;
-        self.rest = rest;
-        Some(word)
-    }
-
     // The word that is left, where it is just one.
     pub fn only(&self) -> Option<&'a str>
         ensures answer { MatchOption result ((w : List ℕ) → self.now ≢ w ∷ []) (λ w. self.now ≡ w.now ∷ []) }
     {
         only_word(self.rest)
+    }
+}
+
+// The words in their order.
+impl<'a> Iterator for Words<'a> {
+    type Item = &'a str;
+
+    ghost next_gives = { λ before word after. MatchOption word ((before ≡ []) × (after ≡ [])) (λ w. before ≡ w.now ∷ after) };
+
+    ghost remaining = { λ words. at_most (length words) };
+
+    fn next(&mut self) -> Option<&'a str> {
+        let (word, rest) = next_word(self.rest)?;
+        self.rest = rest;
+        Some(word)
     }
 }
 

@@ -119,6 +119,7 @@ mod tests {
         assert_eq!(rt; line.next(), Some("4142"));
         assert!(rt; line.only().is_none());
         assert!(rt; line.next().is_none());
+        assert!(rt; words::Words::of("  read  4142 ").all(|word| word.len() == 4));
     }
 
     #[test]
