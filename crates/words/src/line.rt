@@ -6,8 +6,7 @@ ghost use Rattle.words.specs.Lines.{plain_of, text_of, unreturned, words_of};
 use std::alloc::{AllocError, Global};
 use std::marker::Model;
 
-// The words of a line that are still to be read. It has its own `next`, and is no `Iterator`: the clause says then in one fact
-// which word comes and which are left.
+// The words of a line that are still to be read.
 #[derive(Drop)]
 pub struct Words<'a> {
     rest: &'a str,
