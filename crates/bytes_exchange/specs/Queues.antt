@@ -30,10 +30,6 @@ abbrev pub resident_len : Entry → ℕ
 resident_len (resident p) = p.len
 resident_len (paged h) = 0
 
-abbrev pub resident_at : Option Entry → ℕ
-resident_at None = 0
-resident_at (Some e) = resident_len e
-
 -- what the last entry becomes, where it is resident and the piece continues it
 abbrev pub continued : Option Entry → Span → Option Entry
 continued None p = None
