@@ -1,7 +1,8 @@
 use fixed::Fixed;
 use pieces::Piece;
 
-// An entry of a queue: bytes resident in the region, or the handle of a chunk that a store keeps.
+// An entry of a queue: bytes resident in the region, or the handle of a chunk that a store keeps. An enum has no Model, so `entry`
+// stands in each clause.
 #[derive(Clone, Copy, Debug, PartialEq, Eq, Hash)]
 pub enum QueueEntry {
     Resident(Piece),

@@ -6,6 +6,7 @@ use Rattle.answers.specs.declared.Fault.{Fault}
 use Rattle.shape.specs.Figures.{Made}
 use Rattle.shape.specs.declared.shape.Shape.{Shape}
 use Rattle.pieces.specs.Pieces.{Span}
+use Rattle.bytes_slab.specs.declared.slab.BytesSlab.{BytesSlab}
 
 -- a slab: its region's shape, its working buffer, and where its valid bytes begin and end
 pub record Slab : Type 0 where
@@ -14,12 +15,15 @@ pub record Slab : Type 0 where
   pub begin : ℕ
   pub end : ℕ
 
+abbrev pub seen : BytesSlab → Slab
+seen s = record { shape = s.shape; buffer = s.buffer; begin = s.begin; end = s.end }
+
 -- a slab at the front of a buffer of the region; 1 for another
 abbrev pub at_front : Shape → ℕ → ℕ → Slab
 at_front shape buffer valid = record { shape = shape; buffer = buffer; begin = 0; end = valid }
 
-abbrev pub Begins : Shape → ℕ → Result Slab Fault → Type 0
-Begins shape buffer = Made (buffer < shape.buffers) (λ s. s ≡ at_front shape buffer 0)
+abbrev pub Begins : Shape → ℕ → Result BytesSlab Fault → Type 0
+Begins shape buffer = Made (buffer < shape.buffers) (λ s. seen s ≡ at_front shape buffer 0)
 
 -- a region of the slab's shape
 abbrev pub Region : Slab → List ℕ → Type 0

@@ -1,3 +1,4 @@
+ghost use Rattle.bytes_slab.specs.Slabs.{seen};
 ghost use Rattle.bytes_slab.specs.Capacity.{Ensures};
 
 use crate::slab::BytesSlab;
@@ -13,7 +14,7 @@ impl BytesSlab {
         free: &FreeBuffers<'_>,
         region: &mut [u8],
     ) -> Result<(), Fault>
-        ensures after { Ensures capacity free.now self.old region.old result self.new region.new }
+        ensures after { Ensures capacity free.now (seen self.old) region.old result (seen self.new) region.new }
     {
         if !self.shape.holds(region) || free.leases.buffers() != self.shape.buffers {
             return Err(Fault::RegionLength);

@@ -1,24 +1,16 @@
-use shape::Shape;
-use std::marker::Model;
+ghost use Rattle.std.specs.Prelude.{◌<◌, ◌≤◌};
 
-// A working buffer of a region. Its bytes from `begin` to `end - 1` are valid; those behind are empty, and may be written.
+use shape::Shape;
+
+// A working buffer of a region. Its bytes from `begin` to `end - 1` are valid; those behind are empty, and may be written. No
+// Model, though `seen` then stands in each clause, for the reason of `Piece`: tried, and what holds a slab could be copied less.
 #[derive(Clone, Copy, Debug, PartialEq, Eq, Hash)]
 pub struct BytesSlab {
     pub shape: Shape,
     pub buffer: usize,
     pub begin: usize,
     pub end: usize,
-}
-
-impl Model for BytesSlab {
-    ghost use Rattle.std.specs.Prelude.{◌<◌, ◌≤◌};
-    ghost use Rattle.bytes_slab.specs.Slabs.{Slab};
-
-    ghost Value = { Slab };
-
-    ghost view = { λ s. record { shape = s.shape; buffer = s.buffer; begin = s.begin; end = s.end } };
-
-    ghost invariant = { λ s. (s.buffer < s.shape.buffers) × (s.begin ≤ s.end) × (s.end ≤ s.shape.size) };
-
-    ghost inverse = { λ s. record { shape = s.shape; buffer = s.buffer; begin = s.begin; end = s.end } };
+    ghost known: { buffer < shape.buffers },
+    ghost order: { begin ≤ end },
+    ghost within: { end ≤ shape.size },
 }

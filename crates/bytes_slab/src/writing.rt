@@ -1,7 +1,7 @@
 ghost use Rattle.std.specs.Prelude.{◌≡◌, ◌+◌, ◌*◌};
 ghost use Rattle.std.specs.Option.{option_map};
 ghost use Rattle.pieces.specs.Pieces.{span};
-ghost use Rattle.bytes_slab.specs.Slabs.{Begins, Shows, room, grown, extracted, shortened};
+ghost use Rattle.bytes_slab.specs.Slabs.{seen, Begins, Shows, room, grown, extracted, shortened};
 
 use crate::slab::BytesSlab;
 use answers::Fault;
@@ -27,7 +27,7 @@ impl BytesSlab {
 
     // The valid bytes. Not by a piece: a piece has a byte, and these may be none.
     pub fn valid<'a>(&self, region: &'a [u8]) -> Result<&'a [u8], Fault>
-        ensures answer { Shows self.now region.now result }
+        ensures answer { Shows (seen self.now) region.now result }
     {
         if !self.shape.holds(region) {
             return Err(Fault::RegionLength);
@@ -48,8 +48,8 @@ impl BytesSlab {
     // Makes the next `count` bytes valid; false, and nothing changes, where the buffer has not so many. A `bool`, and no
     // `Result`: no refusal has a number for it.
     pub fn make_valid(&mut self, count: usize) -> bool
-        ensures answer { result ≡ room self.old count }
-        ensures after { self.new ≡ grown self.old count }
+        ensures answer { result ≡ room (seen self.old) count }
+        ensures after { seen self.new ≡ grown (seen self.old) count }
     {
         if self.shape.size - self.end < count {
             return false;
@@ -60,8 +60,8 @@ impl BytesSlab {
 
     // Takes the first `count` valid bytes off as a piece; none where there are not so many, or the count is 0.
     pub fn extract(&mut self, count: usize) -> Option<Piece>
-        ensures answer { option_map span result ≡ extracted self.old count }
-        ensures after { self.new ≡ shortened self.old count }
+        ensures answer { option_map span result ≡ extracted (seen self.old) count }
+        ensures after { seen self.new ≡ shortened (seen self.old) count }
     {
         if !(1..=self.end - self.begin).contains(&count) {
             return None;

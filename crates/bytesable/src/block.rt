@@ -7,7 +7,7 @@ use crate::element::Bytesable;
 use answers::Fault;
 use fixed::Fixed;
 
-// The most octets that a block has.
+// By a name of its own, since a const argument is a plain name.
 const MOST: usize = 96;
 
 #[derive(Clone, Copy)]

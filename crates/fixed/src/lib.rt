@@ -8,7 +8,7 @@ mod table;
 use std::alloc::AllocError;
 
 // At most N values, front first. An array with a length beside it, since nothing here allocates, and the kit's ArrayVec is
-// not Copy, as a table that holds queues by value needs it to be. No Model: Copy asks one for the fields back, and a list of
+// not Copy, as a block, a queue and lease counts are. No Model: Copy asks one for the fields back, and a list of
 // the values does not say what stands in the unused places. No derived Debug and no `==`, here and on what is made of a table:
 // they would read those places.
 #[derive(Copy)]

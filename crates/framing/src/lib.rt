@@ -7,8 +7,8 @@ use answers::Fault;
 use bytesable::Bytesable;
 use networking::MessageHeader;
 
-// Fills `out` with the header, its length set to the element's, and then the element. Header and element are two arguments, as
-// in the Rust: a struct of both would be made for the call and taken apart in it.
+// Fills `out` with the header, its length set to the element's, and then the element. Header and element are two arguments: a
+// struct of both would be made for the call and taken apart in it.
 #[tactic(auto, using(crate::proofs::Joining::lengths))]
 pub fn write_message<T: Bytesable>(
     header: &MessageHeader,

@@ -6,7 +6,7 @@ ghost use Rattle.octets.specs.Octets.{RoundTrip};
 use crate::number::{Number, octets_at, put};
 use answers::Fault;
 
-// This impl and the next only name their type's own methods: num_traits' `ToBytes` has no law that says which octets it gives.
+// This impl and the next only name their type's own methods: of a type parameter `ToBytes` of num_traits says no octets.
 impl Number for u32 {
     ghost width = { 4 };
 

@@ -31,7 +31,8 @@ impl Leases {
         self.counts.get(buffer)
     }
 
-    // Another count for a piece's buffer, where the buffer has one and it can change so; answers it then.
+    // Another count for a piece's buffer, where the buffer has one and it can change so; answers it then. What it leaves is
+    // what both its callers promise.
     fn recount<F: FnOnce(u16) -> Option<u16>>(&mut self, piece: Piece, change: F) -> Option<u16>
         requires { F.IsAlwaysCallable change }
         ensures answer { MatchOption (slice_get (counts self.old) piece.buffer) (result ≡ None) (λ n. F.post change n result) }

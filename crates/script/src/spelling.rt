@@ -14,14 +14,14 @@ use words::{Words, bytes, pattern, signed, unsigned};
 
 // A 64-bit number.
 fn number(words: &mut Words<'_>) -> Option<u64>
-    ensures answer { MatchOption result (number_of words.old ≡ None) (λ n. number_of words.old ≡ Some (n, words.new)) }
+    ensures answer { number_of words.old ≡ option_map (λ n. (n, words.new)) result }
 {
     unsigned(words.next()?, u64::MAX)
 }
 
 // Channel, source, range and sequence number.
 pub(crate) fn header(words: &mut Words<'_>) -> Option<MessageHeader>
-    ensures answer { MatchOption result (header_of words.old ≡ None) (λ h. header_of words.old ≡ Some (h, words.new)) }
+    ensures answer { header_of words.old ≡ option_map (λ h. (h, words.new)) result }
 {
     Some(MessageHeader {
         channel: number(words)?,
@@ -41,7 +41,7 @@ fn float(word: &str) -> Option<f64>
 }
 
 fn ray(words: &mut Words<'_>) -> Option<Ray>
-    ensures answer { MatchOption result (ray_spelled words.old ≡ None) (λ x. ray_spelled words.old ≡ Some (ray_octets x)) }
+    ensures answer { ray_spelled words.old ≡ option_map ray_octets result }
 {
     // `as`: the bound makes the cast exact, and `try_from` would test it again.
     let surface = unsigned(words.next()?, u64::from(u32::MAX))? as u32;

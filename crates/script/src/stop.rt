@@ -10,6 +10,7 @@ use std::fmt;
 #[derive(Clone, Copy, Debug, PartialEq, Eq, Hash)]
 pub struct UnknownName;
 
+// By hand: what `thiserror` writes has no clause.
 impl fmt::Display for UnknownName {
     ghost output = { λ _. Some (codes "unknown name") };
 
@@ -20,7 +21,7 @@ impl fmt::Display for UnknownName {
 
 impl Error for UnknownName {}
 
-#[derive(Drop)]
+#[derive(Debug, Drop)]
 pub(crate) enum Stop {
     // The line has not the form of its verb.
     Unreadable,

@@ -7,7 +7,7 @@ use std::alloc::{AllocError, Global};
 use std::marker::Model;
 
 // The words of a line that are still to be read.
-#[derive(Drop)]
+#[derive(Debug, Drop)]
 pub struct Words<'a> {
     rest: &'a str,
 }
@@ -52,7 +52,7 @@ impl<'a> Iterator for Words<'a> {
     }
 }
 
-// The first word of a line and what is behind it.
+// The first word of a line and what is behind it. This and `only_word` stay beside `Words`, which is made of them.
 pub fn next_word(line: &str) -> Option<(&str, &str)>
     ensures answer { MatchOption result (words_of line.now ≡ []) (λ p. words_of line.now ≡ p.0.now ∷ words_of p.1.now) }
 {
