@@ -73,8 +73,9 @@ impl MessageHeader {
     pub fn required_bytes(&self) -> u128
         ensures answer { result ≡ 48 + self.now.length }
     {
-        // `as` for both: by `u128::from` the sum does not prove, since a field behind `&` is known to fit only where it is read.
-        self.header_bytes() as u128 + self.length as u128
+        let length = self.length;
+        // `as`: as above.
+        self.header_bytes() as u128 + u128::from(length)
     }
 
     // How many bytes the header has.
