@@ -1,7 +1,7 @@
 #!/usr/bin/env python3
 """Lists the places in crates/*/src where an older form may stand, by kind: places.py [1-8]; none: all, counts alone.
 
-A line is a candidate and no verdict: docs/DESIGN-PASS.md says of each whether it is one, and what became of it.
+A line is a candidate and no verdict: docs/DESIGN-PASS.md names those that are places, and says what became of each.
 """
 import collections
 import difflib
