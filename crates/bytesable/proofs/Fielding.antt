@@ -1,26 +1,9 @@
 -- House fields within a list. Assumes nothing.
-use Rattle.std.proofs.Common.{◌≡◌, ℕ, suc, ◌+◌, ◌^◌, ◌<◌, ◌≤◌, List, [], ◌∷◌, ◌++◌, length, get_or, take, drop, Some, None, Option, sym, ap, ◌∙◌, inl, inr, arith, length-append, length-drop, length-take, drop-cons, drop-drop}
-use Rattle.std.proofs.lemmas.Bool.{cases_lt}
+use Rattle.std.proofs.Common.{◌≡◌, ℕ, suc, ◌+◌, ◌^◌, ◌<◌, List, [], ◌∷◌, ◌++◌, length, take, drop, Some, None, Option, sym, ap, ◌∙◌, arith, length-append, drop-drop}
 use Rattle.octets.specs.Octets.{octets, part, Reads}
 use Rattle.octets.proofs.Parts.{cut}
 use Rattle.octets.proofs.Spelling.{octets_same, length-octets}
 use Rattle.bytesable.specs.Fields.{head}
-
--- three octets, one by one
-pub part_3 : (bs : List ℕ) (i : ℕ) → i + 3 ≤ length bs → part i 3 bs ≡ get_or bs i 0 ∷ get_or bs (i + 1) 0 ∷ get_or bs (i + 2) 0 ∷ []
-part_3 bs i h =
-    let a : i < length bs = omega arith in
-    let b : suc i < length bs = omega arith in
-    let d : suc (suc i) < length bs = omega arith in
-    let one : suc i ≡ i + 1 = omega arith in
-    let two : suc (suc i) ≡ i + 2 = omega arith in
-    rw (drop-cons bs i 0 a, drop-cons bs (suc i) 0 b, drop-cons bs (suc (suc i)) 0 d, two, one)
-
--- where the list ends before, no tag and length stand
-pub no_head : (bs : List ℕ) (i t s : ℕ) → length bs < i + 3 → part i 3 bs ≡ head t s → ⊥
-no_head bs i t s h e =
-    let l : length (part i 3 bs) ≡ 3 = ap length e in
-    omega (arith, length-take 3 (drop i bs), length-drop i bs)
 
 -- a list that begins with three octets
 split_3 : (l : List ℕ) (w a b c : ℕ) (os : List ℕ) → take (suc (suc (suc w))) l ≡ a ∷ b ∷ c ∷ os → (take 3 l ≡ a ∷ b ∷ c ∷ []) × (take w (drop 3 l) ≡ os)
@@ -38,9 +21,6 @@ field_parts bs i w t s os e =
 
 pub field_whole : (bs : List ℕ) (i w t s : ℕ) (os : List ℕ) → part i 3 bs ≡ head t s → part (i + 3) w bs ≡ os → part i (3 + w) bs ≡ head t s ++ os
 field_whole bs i w t s os p q = cut bs i 3 w p q
-
-pub head_there : (bs : List ℕ) (i t s : ℕ) → part i 3 bs ≡ head t s → i + 3 ≤ length bs
-head_there bs i t s e = elim (cases_lt (length bs) (i + 3)) [ inl h ↦ absurd (no_head bs i t s h e) | inr h ↦ h ]
 
 -- behind a tag and a length the field is read as its content is
 pub field_read : {X : Type 0} (bs : List ℕ) (i w t s : ℕ) (m : X → List ℕ) (r : Option X) → part i 3 bs ≡ head t s → Reads m (part (i + 3) w bs) r → Reads (λ x. head t s ++ m x) (part i (3 + w) bs) r
