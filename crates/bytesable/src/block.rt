@@ -8,7 +8,7 @@ use answers::Fault;
 use fixed::Fixed;
 
 // By a name of its own, since a const argument is a plain name.
-const MOST: usize = 96;
+const MOST: usize = Block::MOST;
 
 #[derive(Clone, Copy)]
 pub struct Block {
@@ -17,7 +17,7 @@ pub struct Block {
 
 impl Block {
     // The most octets that a block has.
-    pub const MOST: usize = MOST;
+    pub const MOST: usize = 96;
 
     // A block of no octets.
     pub fn empty() -> Block

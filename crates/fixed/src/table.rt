@@ -86,11 +86,12 @@ impl<T: Copy, const N: usize> Fixed<T, N> {
     pub fn push_back(&mut self, value: T) -> Result<(), T>
         ensures after { Pushes N value (held self.old) result (held self.new) }
     {
-        if self.len == N {
+        let len = self.len;
+        if len == N {
             return Err(value);
         }
-        self.items[self.len] = value;
-        self.len += 1;
+        self.items[len] = value;
+        self.len = len + 1;
         Ok(())
     }
 

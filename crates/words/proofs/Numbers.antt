@@ -1,11 +1,11 @@
 -- What `parse` reads, in the words of `specs.Decimals`. Assumes nothing.
-use Rattle.std.proofs.Common.{◌≡◌, ℕ, ◌-◌, ◌^◌, ◌<◌, ◌≤◌, Bool, true, false, cond, ◌&&◌, leb, List, [], ◌∷◌, length, get_or, ℤ, pos, neg_ℤ, w64, Some, None, Ok, Err, Option, Result, sym, refl, ap, ◌∙◌, subst, ⊎_elim, arith, rules}
-use Rattle.std.proofs.lemmas.Str.Parse.{IsNumeralModel, numerals_by_weight, parse_plain, parse_signed_minus, parse_signed_plain}
-use Rattle.std.proofs.lemmas.Bool.{and_parts, and_from, leb-true, ltb-true, le-leb, lt-leb, lt-ltb, cases_lt, cases_eq, cases_Bool, eq-eqb, ne_eqb, cond-true, cond-false}
+use Rattle.std.proofs.Common.{◌≡◌, ℕ, ◌-◌, ◌^◌, ◌<◌, ◌≤◌, Bool, true, false, cond, ◌&&◌, leb, List, [], ◌∷◌, length, get_or, pos, Some, None, Ok, Err, Option, Result, sym, refl, ap, ◌∙◌, ⊎_elim, arith, rules}
+use Rattle.std.proofs.lemmas.Str.Parse.{IsNumeralModel, numerals_by_weight, parse_plain}
+use Rattle.std.proofs.lemmas.Bool.{and_parts, and_from, leb-true, ltb-true, le-leb, lt-leb, lt-ltb, cases_lt, cases_Bool, ne_eqb, cond-true, cond-false}
 use Rattle.std.specs.Result.{OkIff, result_ok}
 use Rattle.std.specs.Bool.{then_some}
 use Rattle.std.specs.Option.{MatchOption, option_map}
-use Rattle.std.specs.Str.Parse.{ParsesUnsigned, ParsesSigned}
+use Rattle.std.specs.Str.Parse.{ParsesUnsigned}
 use Rattle.std.specs.Str.{all_ascii_digits}
 use Rattle.words.specs.Decimals.{digits_value, is_number, unsigned_of, signed_of}
 
@@ -51,30 +51,10 @@ parsed_unsigned most cs r small h plain =
     ap (capped most) (converted (λ x. x) (2 ^ 64 - 1) cs r _ (λ p. (p.0, p.1, omega arith)) (λ p. (p.0, p.1, omega arith)) (parse_plain own 64 cs r h plain))
     ∙ capped_if (is_number cs) (digits_value cs) (2 ^ 64 - 1) most (omega arith)
 
-plain_signed : {E : Type 0} (cs : List ℕ) (r : Result ℤ E) → ParsesSigned w64 10 cs r → (get_or cs 0 0 ≡ 43 → ⊥) → (get_or cs 0 0 ≡ 45 → ⊥) → result_ok r ≡ option_map pos (unsigned_of (2 ^ 63 - 1) cs)
-plain_signed cs r h plus minus = converted pos (2 ^ 63 - 1) cs r _ (λ p. (p.0, p.1, omega arith)) (λ p. (p.0, p.1, omega arith)) (parse_signed_plain own w64 cs r h plus minus)
-
-minus_signed : {E : Type 0} (c : ℕ) (cs : List ℕ) (r : Result ℤ E) → c ≡ 45 → ParsesSigned w64 10 (c ∷ cs) r → result_ok r ≡ option_map (λ n. neg_ℤ (pos n)) (unsigned_of (2 ^ 63) cs)
-minus_signed c cs r e h = converted (λ n. neg_ℤ (pos n)) (2 ^ 63) cs r _ (λ p. p) (λ p. p) (parse_signed_minus own w64 (c ∷ cs) r h e)
-
-pub parsed_signed : {E : Type 0} (cs : List ℕ) (r : Result ℤ E) → ParsesSigned w64 10 cs r → (get_or cs 0 0 ≡ 43 → ⊥) → result_ok r ≡ signed_of cs
-parsed_signed [] r h plus = plain_signed [] r h plus (λ e. omega arith)
-parsed_signed (c ∷ cs) r h plus = ⊎_elim
-    (λ e. minus_signed c cs r e h ∙ sym (cond-true _ _ _ (eq-eqb c 45 e)))
-    (λ other. plain_signed (c ∷ cs) r h plus other ∙ sym (cond-false _ _ _ (ne_eqb c 45 other)))
-    (cases_eq c 45)
-
--- a plus is no digit and no minus
-no_digit : (cs : List ℕ) → all_ascii_digits (43 ∷ cs) ≡ true → ⊥
-no_digit cs h = let z : ◌≡◌ {A = ℕ} 0 1 = cc in absurd (omega arith)
-
-pub plus_unsigned : (most : ℕ) (cs : List ℕ) → get_or cs 0 0 ≡ 43 → unsigned_of most cs ≡ None
-plus_unsigned most [] e = absurd (omega arith)
-plus_unsigned most (c ∷ cs) e = subst (λ x. unsigned_of most (x ∷ cs) ≡ None) (sym e) (unfit most (43 ∷ cs) (λ f. no_digit cs f.0))
-
-pub plus_signed : (cs : List ℕ) → get_or cs 0 0 ≡ 43 → signed_of cs ≡ None
-plus_signed [] e = absurd (omega arith)
-plus_signed (c ∷ cs) e = subst (λ x. signed_of (x ∷ cs) ≡ None) (sym e) (ap (option_map pos) (plus_unsigned (2 ^ 63 - 1) (43 ∷ cs) refl))
+-- a word with no minus
+pub signed_plain : (cs : List ℕ) → ((rest : List ℕ) → cs ≡ 45 ∷ rest → ⊥) → option_map pos (unsigned_of (2 ^ 63 - 1) cs) ≡ signed_of cs
+signed_plain [] plain = refl
+signed_plain (c ∷ cs) plain = sym (cond-false _ _ _ (ne_eqb c 45 (λ e. plain cs (ap (λ x. x ∷ cs) e))))
 
 then_cond : (b : Bool) (n : ℕ) → then_some b n ≡ cond b (Some n) None
 then_cond true n = refl

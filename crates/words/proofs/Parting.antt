@@ -10,7 +10,7 @@ use Rattle.std.proofs.lemmas.Bool.{ne_eqb}
 use Rattle.words.specs.Lines.{pieces_of, filled, words_of, plain_of}
 
 -- no byte is a blank
-abbrev Unparted : List ℕ → Type 0
+abbrev pub Unparted : List ℕ → Type 0
 Unparted cs = (i : ℕ) → i < length cs → get_or cs i 0 ≡ 32 → ⊥
 
 tail_unparted : (c : ℕ) (cs : List ℕ) → Unparted (c ∷ cs) → Unparted cs
@@ -33,18 +33,18 @@ filled_some [] pieces h = absurd (h refl)
 filled_some (c ∷ cs) pieces h = refl
 
 -- a word, a blank, and the rest
-first_word : (line cs rest : List ℕ) → line ≡ cs ++ (32 ∷ rest) → Unparted cs → (length cs ≡ 0 → ⊥) → words_of line ≡ cs ∷ words_of rest
+pub first_word : (line cs rest : List ℕ) → line ≡ cs ++ (32 ∷ rest) → Unparted cs → (length cs ≡ 0 → ⊥) → words_of line ≡ cs ∷ words_of rest
 unfolding words_of
 first_word line cs rest e h some = ap (λ l. filled (pieces_of l)) e ∙ ap filled (pieces_first cs rest h) ∙ filled_some cs (pieces_of rest) some
 
 -- a blank in front
-past_blank : (line cs rest : List ℕ) → line ≡ cs ++ (32 ∷ rest) → length cs ≡ 0 → words_of line ≡ words_of rest
+pub past_blank : (line cs rest : List ℕ) → line ≡ cs ++ (32 ∷ rest) → length cs ≡ 0 → words_of line ≡ words_of rest
 unfolding words_of
 past_blank line [] rest e none = ap (λ l. filled (pieces_of l)) e
 past_blank line (c ∷ cs) rest e none = absurd (omega arith)
 
 -- a line with no blank
-last_word : (line : List ℕ) → Unparted line → (length line ≡ 0 → ⊥) → words_of line ≡ line ∷ words_of []
+pub last_word : (line : List ℕ) → Unparted line → (length line ≡ 0 → ⊥) → words_of line ≡ line ∷ words_of []
 unfolding words_of
 last_word line h some = ap filled (pieces_last line h) ∙ filled_some line [] some
 

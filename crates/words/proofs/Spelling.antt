@@ -1,7 +1,6 @@
 -- Numbers spelled in digits, and read back. Assumes nothing.
-use Rattle.std.proofs.Common.{◌≡◌, ℕ, zero, suc, ◌+◌, ◌-◌, ◌*◌, ◌/◌, ◌%◌, ◌^◌, ◌<◌, ◌≤◌, Bool, true, false, cond, eqb, List, [], ◌∷◌, ◌++◌, length, get_or, replicate, Some, sym, refl, ap, ◌∙◌, ⊎_elim, append_assoc, append-nil, add_assoc, mod-eq_of_lt, mul_assoc, add-mul, pow-suc, zero-add, zero-mul, arith, w8, Fits}
+use Rattle.std.proofs.Common.{◌≡◌, ℕ, zero, suc, ◌+◌, ◌-◌, ◌*◌, ◌/◌, ◌%◌, ◌^◌, ◌<◌, ◌≤◌, Bool, true, false, cond, eqb, List, [], ◌∷◌, ◌++◌, length, get_or, replicate, take, drop, pow-add, Some, sym, refl, ap, ◌∙◌, ⊎_elim, append_assoc, append-nil, add_assoc, mod-eq_of_lt, mul_assoc, add-mul, pow-suc, zero-add, zero-mul, arith, w8, Fits}
 use Rattle.std.proofs.Math.Nat.{div-div-eq-div-mul, zero-div}
-use Rattle.std.proofs.lemmas.Fmt.{hex_byte}
 use Rattle.std.specs.Fmt.{digit_glyph, digits, digits_onto, format_spec, padded_integral, char_count, digits_output, styled_digits_output}
 use native.Mathlib.Nat.{pow-succ'}
 use lib.Arith.{mod-mul}
@@ -9,9 +8,30 @@ use Rattle.std.proofs.lemmas.Bool.{cases_eq, cases_lt, cond-true, eq-eqb, eqb-tr
 use Rattle.std.specs.List.{flat_map, AllByRecursion as All}
 use Rattle.std.specs.Option.{option_map}
 use Rattle.words.specs.Hexadecimals.{char_of, in_front, number_of, numeral, pairs_of, bytes_of, spelled, pattern_of, pattern_spelled}
-use Rattle.words.proofs.Digits.{digit_back, read_on, read_digit}
+use Rattle.std.proofs.lemmas.Str.{encode_ascii}
+use Rattle.std.specs.Char.{encode_utf8}
+use Rattle.words.proofs.Digits.{char_ascii, digit_back, read_on, read_digit}
 
-length-numeral : (k n : ℕ) → length (numeral k n) ≡ k
+pow_16 : (k : ℕ) → 2 ^ (4 * k) ≡ 16 ^ k
+pow_16 zero = refl
+pow_16 (suc k) =
+    let four : 4 * suc k ≡ 4 * k + 4 = omega arith in
+    ap (λ n. 2 ^ n) four ∙ pow-add 2 (4 * k) 4 ∙ ap (λ n. n * 16) (pow_16 k) ∙ sym (pow-suc 16 k)
+
+-- the first of k digits, as a shift gives it
+pub numeral_more : (k n : ℕ) → 0 < k → numeral k n ≡ char_of (n / 2 ^ (4 * (k - 1)) % 16) ∷ numeral (k - 1) n
+unfolding numeral
+numeral_more zero n some = absurd (omega arith)
+numeral_more (suc k) n some =
+    let less : k ≡ suc k - 1 = omega arith in
+    ap (λ p. char_of (n / p % 16) ∷ numeral k n) (sym (pow_16 k)) ∙ ap (λ j. char_of (n / 2 ^ (4 * j) % 16) ∷ numeral j n) less
+
+pub numeral_none : (k n : ℕ) → k ≤ 0 → numeral k n ≡ []
+unfolding numeral
+numeral_none zero n none = refl
+numeral_none (suc k) n none = absurd (omega arith)
+
+pub length-numeral : (k n : ℕ) → length (numeral k n) ≡ k
 unfolding numeral
 length-numeral zero n = refl
 length-numeral (suc k) n = ap suc (length-numeral k n)
@@ -34,7 +54,7 @@ read_numeral v (suc k) n =
     let d = n / 16 ^ k % 16 in
     read_digit v (char_of d) d (numeral k n) (digit_back d (omega arith)) ∙ read_numeral (v * 16 + d) k n ∙ ap Some (one_digit_more v n k)
 
-number_back : (k n : ℕ) → n < 16 ^ k → number_of (numeral k n) ≡ Some n
+pub number_back : (k n : ℕ) → n < 16 ^ k → number_of (numeral k n) ≡ Some n
 number_back k n small = read_numeral 0 k n ∙ ap Some (rw (mod-eq_of_lt small, zero-mul (16 ^ k), zero-add n))
 
 -- what a pattern's word says is the pattern
@@ -57,6 +77,27 @@ pub all_small : (bs : List ℕ) → ((i : ℕ) → Fits w8 (get_or bs i 0)) → 
 all_small [] fits = tt
 all_small (b ∷ bs) fits = ((fits 0).fits, all_small bs (λ i. fits (suc i)))
 
+-- the word of one byte or more
+pub spelled_some : (bs : List ℕ) → (length bs ≡ 0 → ⊥) → flat_map (numeral 2) bs ≡ spelled bs
+spelled_some [] some = absurd (some refl)
+spelled_some (b ∷ bs) some = refl
+
+joined_at : (f : ℕ → List ℕ) (bs : List ℕ) (i : ℕ) → i < length bs → flat_map f (take i bs) ++ (f (get_or bs i 0) ++ flat_map f (drop (suc i) bs)) ≡ flat_map f bs
+joined_at f [] i l = absurd (omega arith)
+joined_at f (b ∷ bs) zero l = refl
+joined_at f (b ∷ bs) (suc i) l =
+    append_assoc (f b) (flat_map f (take i bs)) (f (get_or bs i 0) ++ flat_map f (drop (suc i) bs))
+    ∙ ap (λ xs. f b ++ xs) (joined_at f bs i (omega arith))
+
+-- a front of what the element at i gives makes a front of what all give
+pub joined_front : (f : ℕ → List ℕ) (bs : List ℕ) (i : ℕ) (front rest : List ℕ) → i < length bs → front ++ rest ≡ f (get_or bs i 0) → (flat_map f (take i bs) ++ front) ++ (rest ++ flat_map f (drop (suc i) bs)) ≡ flat_map f bs
+joined_front f bs i front rest l e =
+    let before = flat_map f (take i bs) in
+    let behind = flat_map f (drop (suc i) bs) in
+    append_assoc before front (rest ++ behind)
+    ∙ ap (λ xs. before ++ xs) (sym (append_assoc front rest behind) ∙ ap (λ xs. xs ++ behind) e)
+    ∙ joined_at f bs i l
+
 -- the character of a digit is the one that is printed
 glyph : (d : ℕ) → digit_glyph false d ≡ char_of d
 glyph d = ⊎_elim (λ low. rw (lt-ltb d 10 low) refl) (λ high. rw (le-ltb d 10 high) (omega arith)) (cases_lt d 10)
@@ -65,13 +106,17 @@ glyph d = ⊎_elim (λ low. rw (lt-ltb d 10 low) refl) (λ high. rw (le-ltb d 10
 pub hole_shown : (width n : ℕ) (d : _) (s : _) → s ≡ format_spec 32 0 4 width (2 ^ 64 - 1) → digits_output d ≡ Some (digits 16 false n) → styled_digits_output d s ≡ Some (padded_integral (format_spec 32 0 4 width (2 ^ 64 - 1)) false [] (digits 16 false n))
 hole_shown width n d s e h = ap (styled_digits_output d) e ∙ ap (option_map (padded_integral (format_spec 32 0 4 width (2 ^ 64 - 1)) false [])) h
 
--- a byte as it is printed
-pub byte_shown : (n : ℕ) → n < 256 → padded_integral (format_spec 32 0 4 2 (2 ^ 64 - 1)) false [] (digits 16 false n) ≡ numeral 2 n
+-- the text of a digit's character
+pub digit_text : (c d : ℕ) (text : List ℕ) → text ≡ encode_utf8 c → c ≡ char_of d → d < 16 → text ≡ char_of d ∷ []
+digit_text c d text e is small = e ∙ encode_ascii c (omega (arith, is, char_ascii d small)) ∙ ap (λ x. x ∷ []) is
+
+-- a byte, digit by digit
+pub byte_digits : (n m : ℕ) (high low : List ℕ) → m ≡ n → n < 256 → high ≡ char_of (m / 16) ∷ [] → low ≡ char_of (m % 16) ∷ [] → high ++ low ≡ numeral 2 n
 unfolding numeral
-byte_shown n small =
-    let high : n / 16 ≡ n / 16 % 16 = omega arith in
-    let low : n % 16 ≡ n / 1 % 16 = omega arith in
-    hex_byte false n small ∙ ap (λ d. d ∷ digit_glyph false (n % 16) ∷ []) (glyph (n / 16) ∙ ap char_of high) ∙ ap (λ d. char_of (n / 16 % 16) ∷ d ∷ []) (glyph (n % 16) ∙ ap char_of low)
+byte_digits n m high low e small h l =
+    let first : m / 16 ≡ n / 16 % 16 = omega (arith, e) in
+    let last : m % 16 ≡ n / 1 % 16 = omega (arith, e) in
+    ap (λ xs. xs ++ low) h ∙ ap (λ xs. char_of (m / 16) ∷ xs) l ∙ ap (λ x. char_of x ∷ char_of (m % 16) ∷ []) first ∙ ap (λ x. char_of (n / 16 % 16) ∷ char_of x ∷ []) last
 
 -- the last digit stands last
 numeral_last : (k n : ℕ) → numeral (suc k) n ≡ numeral k (n / 16) ++ (char_of (n % 16) ∷ [])

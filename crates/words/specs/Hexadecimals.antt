@@ -1,5 +1,5 @@
 -- Words of lowercase hexadecimal digits: bytes as pairs, and 64-bit patterns. Assumes nothing.
-use Rattle.std.specs.Prelude.{ℕ, zero, suc, ◌+◌, ◌-◌, ◌/◌, ◌%◌, ◌^◌, Bool, cond, is_some, List, [], ◌∷◌, length, Some, None, Option, ◌==◌, nat_lt}
+use Rattle.std.specs.Prelude.{ℕ, zero, suc, ◌+◌, ◌-◌, ◌/◌, ◌%◌, ◌^◌, cond, List, [], ◌∷◌, length, Some, None, Option, ◌==◌, nat_lt}
 use Rattle.std.specs.List.{flat_map}
 use Rattle.std.specs.Option.{option_map}
 use Rattle.std.specs.Int.{is_in_range}
@@ -8,10 +8,6 @@ use Rattle.std.specs.Int.Digits.{number_from_digits}
 -- the value of a digit, 0 to 9 or a to f
 abbrev pub digit_of : ℕ → Option ℕ
 digit_of c = cond (is_in_range 48 57 c) (Some (c - 48)) (cond (is_in_range 97 102 c) (Some (c - 97 + 10)) None)
-
--- whether a character is a digit
-abbrev pub is_digit : ℕ → Bool
-is_digit c = is_some (digit_of c)
 
 -- the character of a digit
 abbrev pub char_of : ℕ → ℕ
