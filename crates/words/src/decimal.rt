@@ -13,7 +13,8 @@ pub fn unsigned(word: &str, most: u64) -> Option<u64>
     word.parse::<u64>().ok().filter(|value| *value <= most)
 }
 
-// A number of digits behind an optional minus, where it fits.
+// A number of digits behind an optional minus, where it fits. By `unsigned`, so that its bounds stand in the code; `as`: they make
+// the casts exact.
 pub fn signed(word: &str) -> Option<i64>
     ensures { result ≡ signed_of word.now }
 {

@@ -1,5 +1,5 @@
 // Bytes and patterns in lowercase hexadecimal digits.
-ghost use Rattle.std.specs.Prelude.{◌≡◌, ◌^◌, ◌%◌, ◌<◌, ◌≤◌, [], ◌∷◌, length, IfSome, IfOk, Some, vec_items, string_bytes};
+ghost use Rattle.std.specs.Prelude.{◌≡◌, ◌^◌, ◌<◌, ◌≤◌, [], ◌∷◌, length, IfSome, IfOk, Some, vec_items, string_bytes};
 ghost use Rattle.std.specs.Option.{option_map};
 ghost use Rattle.words.specs.Appending.{Appends};
 ghost use Rattle.words.specs.Hexadecimals.{digit_of, char_of, number_of, pairs_of, bytes_of, pattern_of, numeral, spelled, pattern_spelled};
@@ -7,7 +7,7 @@ ghost use Rattle.words.specs.Hexadecimals.{digit_of, char_of, number_of, pairs_o
 use std::alloc::{AllocError, Global};
 use std::fmt;
 
-// The character of a digit.
+// The character of a digit. By hand, for what prints and appends digits; `as`: a digit is below 16, so nothing is lost.
 fn digit_char(digit: u64) -> char
     requires { digit < 16 }
     ensures { result ≡ char_of digit }
@@ -54,7 +54,7 @@ impl fmt::Display for HexPattern {
     }
 }
 
-// The value of a digit.
+// The value of a digit. By hand: the library's would take uppercase digits.
 fn digit_value(c: u8) -> Option<u8>
     ensures { result ≡ digit_of c }
 {
